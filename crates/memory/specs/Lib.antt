@@ -1,0 +1,5 @@
+pub mod Row
+pub mod Shape
+pub mod Protection
+pub mod Page
+pub mod Cycle
