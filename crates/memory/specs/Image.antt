@@ -1,5 +1,5 @@
 -- What an `Image` holds, and a cycle on it.
-use mathlib.Core.Bool.{Bool, true, cond}
+use mathlib.Core.Bool.{Bool, true, cond, _&&_}
 use mathlib.Core.List.{List, [], _∷_}
 use Prim.Native.Nat.{ℕ, zero, suc, _+_, _*_, _%_, _≤_}
 use lib.Dec.{leb, eqb, ltb}
@@ -22,11 +22,14 @@ bytesOf i = vec-items (i .bytes)
 abbrev pub shapeOf : Image → Shape
 shapeOf i = shaped (i .sectors) (i .pages)
 
+-- 1 to 128 sectors of 1 to 2,048 pages
+abbrev pub inRange : ℕ → ℕ → Bool
+inRange sectors pages = ltb 0 sectors && (leb sectors 128 && (ltb 0 pages && leb pages 2048))
+
 -- why an image of so many sectors, pages a sector and bytes cannot be made
 abbrev pub unmade : ℕ → ℕ → ℕ → Option ImageFault
 unmade sectors pages bytes =
-    cond (ltb 0 sectors) (cond (leb sectors 128) (cond (ltb 0 pages) (cond (leb pages 2048)
-    (cond (eqb bytes (size (shaped sectors pages))) None (Some Length)) (Some Geometry)) (Some Geometry)) (Some Geometry)) (Some Geometry)
+    cond (inRange sectors pages) (cond (eqb bytes (size (shaped sectors pages))) None (Some Length)) (Some Geometry)
 
 -- what a page cycle of this kind makes of the old byte and the one sent
 abbrev pub rule : Kind → ℕ → ℕ → ℕ

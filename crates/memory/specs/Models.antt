@@ -22,7 +22,7 @@ lookup (m ∷ ms) c = cond (eqb (m .capacity) c) (Some m) (lookup ms c)
 abbrev pub modelShape : Model → Shape
 modelShape m = shaped (m .sectors) (m .pages)
 
-abbrev shapeOr : Option Model → Shape
+abbrev pub shapeOr : Option Model → Shape
 shapeOr None = shaped 0 0
 shapeOr (Some m) = modelShape m
 

@@ -9,13 +9,13 @@ ghost use Rattle.memory.specs.Shape.{shaped, size};
 ghost use Rattle.memory.specs.Page.{blank, page};
 ghost use Rattle.memory.specs.Cycle.{cycleOf};
 ghost use Rattle.memory.specs.Image.{bytesOf, carried, rolled, shapeOf, unmade};
+use crate::bytes::is_blank;
 use crate::cycle::carry_out;
 use crate::image::Image;
 use crate::image::ImageFault;
 use crate::kind::Kind;
 use crate::model::PAGE_BYTES;
 use crate::page::are_bytes;
-use crate::page::is_blank;
 use crate::page::roll;
 
 const MOST_SECTORS: usize = 128;

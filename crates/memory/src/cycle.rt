@@ -5,10 +5,10 @@ ghost use lib.ListN.{length, getD};
 ghost use Rattle.memory.specs.Shape.{shaped};
 ghost use Rattle.memory.specs.Cycle.{cycleOf};
 ghost use Rattle.memory.specs.Image.{carried};
+use crate::bytes::fill;
 use crate::kind::Kind;
 use crate::model::PAGE_BYTES;
 use crate::page::erase;
-use crate::page::fill;
 use crate::page::write;
 
 // Past the end a cycle does nothing; an erase ignores its data, a bulk erase its address too.

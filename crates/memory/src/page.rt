@@ -3,8 +3,9 @@ ghost use mathlib.Core.Path.{_≡_};
 ghost use mathlib.Core.List.{List, []};
 ghost use Prim.Native.Nat.{ℕ, _+_, _*_, _/_, _%_, _<_, _≤_};
 ghost use lib.ListN.{length, getD, replicate};
-ghost use Rattle.memory.specs.Page.{block, blank, cover, merged, page, put, written};
+ghost use Rattle.memory.specs.Page.{cover, merged, put, written};
 ghost use Rattle.memory.specs.Image.{rule, rolled};
+use crate::bytes::fill;
 use crate::kind::Kind;
 use crate::model::PAGE_BYTES;
 
@@ -17,26 +18,6 @@ pub fn are_bytes(bytes: &[u8])
     ensures { λ _. ⌜ ((i : ℕ) → getD (now (bytes .entry)) i 0 < 256) ⌝ }
 {
     let _first = bytes[0];
-}
-
-pub fn fill(bytes: &mut [u8], value: u8)
-    ensures after { λ _. ⌜ now (bytes .exit) ≡ replicate (length (now (bytes .entry))) value ⌝ }
-    ensures bytes { λ _. ⌜ ((i : ℕ) → getD (now (bytes .exit)) i 0 < 256) ⌝ }
-{
-    for x in bytes.iter_mut() {
-        *x = value;
-    }
-}
-
-pub fn is_blank(bytes: &[u8]) -> bool
-    ensures { λ r. ⌜ r ≡ blank (now (bytes .entry)) ⌝ }
-{
-    for x in bytes {
-        if *x != 0xFF {
-            return false;
-        }
-    }
-    true
 }
 
 // Reads from an address on, rolling over after the last byte.

@@ -5,7 +5,7 @@ use native.Mathlib.Omega.{arith}
 use lib.ListN.{length, replicate, getD}
 use Rattle.std.proofs.shelf.Lists.{take-more-set, replicate-more, take-all}
 use Rattle.memory.proofs.Loops.{byte-replicate}
-use Rattle.memory.proofs.page.fill.Needs as need
+use Rattle.memory.proofs.bytes.fill.Needs as need
 
 pub loop-x-again : need.loop-x-again
 loop-x-again c =

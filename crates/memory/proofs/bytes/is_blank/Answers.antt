@@ -6,7 +6,7 @@ use lib.ListN.{length, getD, drop}
 use Rattle.std.proofs.shelf.Lists.{at-drop-more, at-drop-all}
 use Rattle.std.proofs.shelf.Ways.{tells}
 use Rattle.memory.specs.Page.{blank}
-use Rattle.memory.proofs.page.is_blank.Needs as need
+use Rattle.memory.proofs.bytes.is_blank.Needs as need
 
 pub returns-then-x : need.returns-then-x
 returns-then-x c =

@@ -1,0 +1,6 @@
+pub mod Instructions
+pub mod Chip
+pub mod Machine
+pub mod Rows
+pub mod Bench
+pub mod Bus
