@@ -10,6 +10,7 @@ use Rattle.std.specs.declared.option.Option.{Option}
 use Rattle.std.specs.declared.option.Option.the-variants.{None, Some}
 use Rattle.memory.specs.declared.model.Model.{Model}
 use Rattle.memory.specs.declared.image.ImageFault.the-variants.{Length}
+use Rattle.std.specs.Options.{isSome}
 use Rattle.memory.specs.Shape.{size}
 use Rattle.memory.specs.Image.{inRange, unmade}
 use Rattle.memory.specs.Models.{models, lookup, modelShape, shapeOr, shapeFor}
@@ -46,3 +47,12 @@ bytes-or (Some m) = refl
 
 pub page-bytes : (c : ℕ) → shapeFor c .bytes ≡ 64
 page-bytes c = bytes-or (lookup models c)
+
+range-or : (o : Option Model) → ((m : Model) → o ≡ Some m → inRange (m .sectors) (m .pages) ≡ true) → isSome o ≡ true
+    → inRange (shapeOr o .sectors) (shapeOr o .pages) ≡ true
+range-or None h t = let z : _≡_ {A = ℕ} 0 1 = cc in absurd (omega native.Mathlib.Omega.arith)
+range-or (Some m) h t = h m refl
+
+-- a known chip has 1 to 128 sectors of 1 to 2,048 pages
+pub known-range : (c : ℕ) → isSome (lookup models c) ≡ true → inRange (shapeFor c .sectors) (shapeFor c .pages) ≡ true
+known-range c t = range-or (lookup models c) (λ m e. models-ranged c m e) t

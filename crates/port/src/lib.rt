@@ -6,6 +6,7 @@ pub mod bus;
 pub mod decode;
 pub mod fault;
 pub mod instruction;
+pub mod laws;
 mod machine;
 pub mod order;
 pub mod port;
