@@ -1,0 +1,5 @@
+pub mod Blocks
+pub mod Pages
+pub mod Covers
+pub mod Cycles
+pub mod Lists

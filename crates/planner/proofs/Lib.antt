@@ -1,0 +1,4 @@
+pub mod Sums
+pub mod SectorCosts
+pub mod Laws
+pub mod Examples
