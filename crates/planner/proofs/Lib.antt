@@ -5,4 +5,8 @@ pub mod Spans
 pub mod Windows
 pub mod Runs
 pub mod PageCosts
+pub mod OneCycle
+pub mod Least
+pub mod Price
+pub mod Unreached
 pub mod Examples
