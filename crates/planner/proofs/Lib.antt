@@ -9,4 +9,7 @@ pub mod OneCycle
 pub mod Least
 pub mod Price
 pub mod Unreached
+pub mod Mixed
+pub mod Reached
+pub mod Stepped
 pub mod Examples
