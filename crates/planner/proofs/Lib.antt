@@ -9,7 +9,9 @@ pub mod OneCycle
 pub mod Least
 pub mod Price
 pub mod Unreached
+pub mod Unchanged
 pub mod Mixed
 pub mod Reached
 pub mod Stepped
+pub mod Theorems
 pub mod Examples

@@ -21,19 +21,16 @@ use Rattle.planner.specs.Window.{window}
 use Rattle.planner.specs.Plan.{windowCost, keepPage, erasedPage, leastCost}
 use Rattle.planner.proofs.Sums.{Le}
 use Rattle.planner.proofs.SectorCosts.{page-step, sector-step, bulk-step, chosen-none}
-use Rattle.planner.proofs.Windows.{window-same}
 use Rattle.planner.proofs.Runs.{merged-off}
 use Rattle.planner.proofs.PageCosts.{window-step}
+use Rattle.planner.proofs.Unchanged.{keep-none}
 
 module _ {C : Type 0} {K : Cost C} (m : Shape) (L : Lawful K (m .bytes)) (prot : ℕ → Bool) (wanted : List ℕ) (whole : Whole m wanted) where
   -- an image as wanted has nothing left to do, and so has a memory that holds nothing
   pub nothing-left : Le K (leastCost K m prot wanted wanted) (K .none)
   nothing-left =
     chosen-none L m (keepPage K (m .bytes) wanted wanted) (erasedPage K (m .bytes) wanted) (free prot (m .sectors))
-      (λ k j l i.
-        subst (λ o. Le K (windowCost K o) (K .none))
-          (sym (window-same (m .bytes) (page (m .bytes) (k * m .pages + j) wanted) (length-page m _ wanted whole (number-lt m k j l i))))
-          (L .leq-refl _))
+      (keep-none m L wanted whole)
 
   pub empty-left : (image : List ℕ) → Whole m image → size m ≡ 0 → Le K (leastCost K m prot image wanted) (K .none)
   empty-left image e z =

@@ -11,15 +11,15 @@ use lib.ListN.{length, getD, replicate, length-replicate, getD-replicate}
 use lib.Seq.{take-all, ext-getD}
 use Rattle.std.specs.declared.option.Option.{Option}
 use Rattle.std.specs.declared.option.Option.the-variants.{None, Some}
-use Rattle.std.proofs.shelf.Lists.{drop-all, append-nil, nil-from-length}
-use Rattle.std.proofs.shelf.Tests.{cases-bool, cases-eq, and-from, lt-ltb, le-leb, not-from-false, both-ways, cond-true}
+use Rattle.std.proofs.shelf.Lists.{drop-all, append-nil}
+use Rattle.std.proofs.shelf.Tests.{cases-bool, cases-eq, and-from, lt-ltb, le-leb, not-from-false, both-ways}
 use Rattle.std.proofs.shelf.Bits.{div-mul-add, mod-mul-add}
-use Rattle.memory.specs.Shape.{Shape, size, sectorAt, Imaged}
+use Rattle.memory.specs.Shape.{Shape, size, sectorAt}
 use Rattle.memory.specs.Protection.{free}
 use Rattle.memory.specs.Page.{put, page, merged, cover, written, blank}
 use Rattle.memory.specs.Cycle.{Cycle, program, alter, preset, sectorErase, bulkErase, replacing, effect, writable, fitsPage, accepts, Goes}
 use Rattle.memory.proofs.Blocks.{getD-block, put-same, block-replicate}
-use Rattle.memory.proofs.Pages.{Real, Whole, empty-or-real, number-lt, page-fits, length-page, sector-fits}
+use Rattle.memory.proofs.Pages.{Real, Whole, number-lt, page-fits, length-page, sector-fits}
 use Rattle.memory.proofs.Cycles.{free-at, blank-replicate, erasedAt, erased-fits, length-erased, page-erased}
 use Rattle.memory.proofs.Lists.{goes-join}
 use Rattle.planner.specs.Barred.{Barred}
@@ -27,13 +27,10 @@ use Rattle.planner.specs.Cost.{Cost, Lawful}
 use Rattle.planner.specs.Window.{window, Shortest, Windowed}
 use Rattle.planner.specs.Sectors.{overSector, eraseCost, sectorsCost, bulkCost}
 use Rattle.planner.specs.Plan.{windowCost, keepPage, erasedPage, bytesFrom, lowers, sending, keepCycles, presets, listTo, pagesOf, sectorPlan, bulkPlan, plan}
-use Rattle.planner.specs.Theorems.{PlanReaches}
 use Rattle.planner.proofs.Sums.{Le, sum-none}
-use Rattle.planner.proofs.SectorCosts.{sectors-none}
 use Rattle.planner.proofs.Windows.{page-window, none-shortest, window-same}
 use Rattle.planner.proofs.Runs.{length-bytesFrom, merged-sent, lowers-at}
 use Rattle.planner.proofs.Mixed.{mixed, length-mixed, block-mixed, put-mixed, erase-mixed, mixed-past}
-use Rattle.planner.proofs.Price.{plan-spent}
 
 goes-list :
   (m : Shape) (prot : ℕ → Bool) (n : ℕ) (f : ℕ → List Cycle) (G : ℕ → List ℕ)
@@ -305,7 +302,7 @@ module _ (m : Shape) (R : Real m) (prot : ℕ → Bool) (wanted : List ℕ) (who
             erase-goes k h
               (⊎-elim (λ u. absurd (both-ways _ t (protected-keeps k h u))) (λ u. u) (cases-bool (prot k)))
 
-      plan-goes : Goes m prot image (plan K m prot image wanted) wanted
+      pub plan-goes : Goes m prot image (plan K m prot image wanted) wanted
       plan-goes =
           go (free prot (m .sectors)) refl
             (K .leq (sectorsCost K m (keepPage K (m .bytes) image wanted) (erasedPage K (m .bytes) wanted))
@@ -325,7 +322,7 @@ module _ (m : Shape) (R : Real m) (prot : ℕ → Bool) (wanted : List ℕ) (who
           go false t false = by-sectors
 
   -- no barred byte: the pages of protected sectors are as wanted
-  pages-agree :
+  pub pages-agree :
     (image : List ℕ) → Whole m image → ((a : ℕ) → Barred m prot image wanted a → ⊥)
       → (q : ℕ) → q < m .sectors * m .pages → prot (q / m .pages) ≡ true → page (m .bytes) q image ≡ new q
   pages-agree image e none q h t =
