@@ -19,11 +19,11 @@ getD-block at n image i h = getD-take n _ i 0 h ∙ getD-drop at image i 0
 
 -- a block of a block
 pub block-block :
-  (at n b k : ℕ) (image : List ℕ) → b + k ≤ n → block b k (block at n image) ≡ block (at + b) k image
+    (at n b k : ℕ) (image : List ℕ) → b + k ≤ n → block b k (block at n image) ≡ block (at + b) k image
 block-block at n b k image h =
     subst (λ y. take k (drop b (take y (drop at image))) ≡ take k (drop (at + b) image)) e
-      (ap (λ y. take k y) (drop-take b (n - b) (drop at image))
-        ∙ (take-take k (n - b) (drop b (drop at image)) (omega arith) ∙ ap (λ y. take k y) (drop-drop b at image)))
+    (ap (λ y. take k y) (drop-take b (n - b) (drop at image))
+    ∙ (take-take k (n - b) (drop b (drop at image)) (omega arith) ∙ ap (λ y. take k y) (drop-drop b at image)))
   where
     e : b + (n - b) ≡ n
     e = omega arith
@@ -49,36 +49,37 @@ length-put at xs image h = simp (length-append, length-take, length-drop) (omega
 pub put-same : (at n : ℕ) (image : List ℕ) → at + n ≤ length image → put at (block at n image) image ≡ image
 put-same at n image h =
     ap (λ y. take at image ++ (block at n image ++ y))
-      (ap (λ y. drop (at + y) image) (length-block at n image h) ∙ sym (drop-drop n at image))
-      ∙ (ap (λ y. take at image ++ y) (take-append-drop n (drop at image)) ∙ take-append-drop at image)
+    (ap (λ y. drop (at + y) image) (length-block at n image h) ∙ sym (drop-drop n at image))
+    ∙ (ap (λ y. take at image ++ y) (take-append-drop n (drop at image)) ∙ take-append-drop at image)
 
 -- a block away from what was put
 pub block-put-out :
-  (at : ℕ) (xs image : List ℕ) (b n : ℕ) → at + length xs ≤ length image → (b + n ≤ at) ⊎ (at + length xs ≤ b)
+    (at : ℕ) (xs image : List ℕ) (b n : ℕ) → at + length xs ≤ length image → (b + n ≤ at) ⊎ (at + length xs ≤ b)
     → block b n (put at xs image) ≡ block b n image
 block-put-out at xs image b n h (inl k) =
     block-front (take at image) _ b n (simp length-take (omega arith))
-      ∙ sym (subst (λ y. block b n y ≡ block b n (take at image)) (take-append-drop at image)
-        (block-front (take at image) (drop at image) b n (simp length-take (omega arith))))
+    ∙ sym (subst (λ y. block b n y ≡ block b n (take at image)) (take-append-drop at image)
+    (block-front (take at image) (drop at image) b n (simp length-take (omega arith))))
 block-put-out at xs image b n h (inr k) =
     ap (λ y. block b n y) (sym (append-assoc (take at image) xs (drop end image)))
-      ∙ (block-back (take at image ++ xs) _ b n (simp (length-append, length-take) (omega arith))
-      ∙ (ap (λ y. block (b - y) n (drop end image)) e
-      ∙ sym (subst (λ y. block b n y ≡ block (b - length (take end image)) n (drop end image)) (take-append-drop end image)
-        (block-back (take end image) (drop end image) b n (simp length-take (omega arith))))))
+    ∙ (block-back (take at image ++ xs) _ b n (simp (length-append, length-take) (omega arith))
+    ∙ (ap (λ y. block (b - y) n (drop end image)) e
+    ∙ sym (subst (λ y. block b n y ≡ block (b - length (take end image)) n (drop end image)) (take-append-drop end image)
+    (block-back (take end image) (drop end image) b n (simp length-take (omega arith))))))
   where
     end : ℕ
     end = at + length xs
+
     e : length (take at image ++ xs) ≡ length (take end image)
     e = simp (length-append, length-take) (omega arith)
 
 -- a block of what was put
 pub block-put-in :
-  (at : ℕ) (xs image : List ℕ) (b n : ℕ) → at ≤ length image → at ≤ b → b + n ≤ at + length xs
+    (at : ℕ) (xs image : List ℕ) (b n : ℕ) → at ≤ length image → at ≤ b → b + n ≤ at + length xs
     → block b n (put at xs image) ≡ block (b - at) n xs
 block-put-in at xs image b n h k l =
     block-back (take at image) _ b n (simp length-take (omega arith))
-      ∙ (ap (λ y. block (b - y) n (xs ++ drop (at + length xs) image)) e ∙ block-front xs _ (b - at) n (omega arith))
+    ∙ (ap (λ y. block (b - y) n (xs ++ drop (at + length xs) image)) e ∙ block-front xs _ (b - at) n (omega arith))
   where
     e : length (take at image) ≡ at
     e = simp length-take (omega arith)

@@ -37,32 +37,32 @@ module _ (m : Shape) where
 
   -- a page cycle on page `address / m .bytes`
   module _
-    (f : ℕ → ℕ → ℕ) (address : ℕ) (sent image : List ℕ) (e : Whole m image) (h : address / m .bytes < m .sectors * m .pages)
+      (f : ℕ → ℕ → ℕ) (address : ℕ) (sent image : List ℕ) (e : Whole m image) (h : address / m .bytes < m .sectors * m .pages)
     where
-    abbrev pub newPage : List ℕ
-    newPage = merged f (page (m .bytes) (address / m .bytes) image) (cover (m .bytes) (address % m .bytes) sent)
+      abbrev pub newPage : List ℕ
+      newPage = merged f (page (m .bytes) (address / m .bytes) image) (cover (m .bytes) (address % m .bytes) sent)
 
-    pub length-new : length newPage ≡ m .bytes
-    length-new = length-merged f _ _ ∙ length-page m (address / m .bytes) image e h
+      pub length-new : length newPage ≡ m .bytes
+      length-new = length-merged f _ _ ∙ length-page m (address / m .bytes) image e h
 
-    put-fits : address / m .bytes * m .bytes + length newPage ≤ length image
-    put-fits = omega (arith, length-new, page-fits m (address / m .bytes) image e h)
+      put-fits : address / m .bytes * m .bytes + length newPage ≤ length image
+      put-fits = omega (arith, length-new, page-fits m (address / m .bytes) image e h)
 
-    pub length-written : Whole m (written f (m .bytes) address sent image)
-    length-written = length-put _ newPage image put-fits ∙ e
+      pub length-written : Whole m (written f (m .bytes) address sent image)
+      length-written = length-put _ newPage image put-fits ∙ e
 
-    pub page-written : page (m .bytes) (address / m .bytes) (written f (m .bytes) address sent image) ≡ newPage
-    page-written =
-      block-put-in _ newPage image (address / m .bytes * m .bytes) (m .bytes) (omega (arith, put-fits)) (omega arith)
-        (omega (arith, length-new))
-        ∙ (ap (λ y. take (m .bytes) (drop y newPage)) (sub-self (address / m .bytes * m .bytes))
-        ∙ take-all (m .bytes) newPage (omega (arith, length-new)))
+      pub page-written : page (m .bytes) (address / m .bytes) (written f (m .bytes) address sent image) ≡ newPage
+      page-written =
+          block-put-in _ newPage image (address / m .bytes * m .bytes) (m .bytes) (omega (arith, put-fits)) (omega arith)
+          (omega (arith, length-new))
+          ∙ (ap (λ y. take (m .bytes) (drop y newPage)) (sub-self (address / m .bytes * m .bytes))
+          ∙ take-all (m .bytes) newPage (omega (arith, length-new)))
 
-    pub block-written :
-      (b n : ℕ) → (b + n ≤ address / m .bytes * m .bytes) ⊎ (address / m .bytes * m .bytes + m .bytes ≤ b)
-        → block b n (written f (m .bytes) address sent image) ≡ block b n image
-    block-written b n t =
-      block-put-out _ newPage image b n put-fits (⊎-elim (λ u. inl u) (λ u. inr (omega (arith, length-new))) t)
+      pub block-written :
+          (b n : ℕ) → (b + n ≤ address / m .bytes * m .bytes) ⊎ (address / m .bytes * m .bytes + m .bytes ≤ b)
+          → block b n (written f (m .bytes) address sent image) ≡ block b n image
+      block-written b n t =
+          block-put-out _ newPage image b n put-fits (⊎-elim (λ u. inl u) (λ u. inr (omega (arith, length-new))) t)
 
   -- sector k erased
   abbrev pub erasedAt : ℕ → List ℕ → List ℕ
@@ -76,38 +76,38 @@ module _ (m : Shape) where
     length-erased = length-put _ (replicate (m .pages * m .bytes) 255) image erased-fits ∙ e
 
     pub block-erased :
-      (b n : ℕ) → (b + n ≤ k * m .pages * m .bytes) ⊎ (k * m .pages * m .bytes + m .pages * m .bytes ≤ b)
+        (b n : ℕ) → (b + n ≤ k * m .pages * m .bytes) ⊎ (k * m .pages * m .bytes + m .pages * m .bytes ≤ b)
         → block b n (erasedAt k image) ≡ block b n image
     block-erased b n t =
-      block-put-out _ (replicate (m .pages * m .bytes) 255) image b n erased-fits
+        block-put-out _ (replicate (m .pages * m .bytes) 255) image b n erased-fits
         (⊎-elim (λ u. inl u) (λ u. inr (simp length-replicate u)) t)
 
     pub page-erased :
-      (j : ℕ) → j < m .pages → page (m .bytes) (k * m .pages + j) (erasedAt k image) ≡ replicate (m .bytes) 255
+        (j : ℕ) → j < m .pages → page (m .bytes) (k * m .pages + j) (erasedAt k image) ≡ replicate (m .bytes) 255
     page-erased j l =
-      let t = in-sector (m .pages) (m .bytes) k j l in
-      block-put-in _ (replicate (m .pages * m .bytes) 255) image _ (m .bytes)
+        let t = in-sector (m .pages) (m .bytes) k j l in
+        block-put-in _ (replicate (m .pages * m .bytes) 255) image _ (m .bytes)
         (omega (arith, sector-fits m k image e h)) (t .0) (simp length-replicate (t .1))
         ∙ block-replicate _ (m .bytes) (m .pages * m .bytes) 255 (omega (arith, t))
 
 module _ (m : Shape) (R : Real m) (prot : ℕ → Bool) where
   -- what an accepted address says: its page and sector are there, and not protected
   pub writable-facts :
-    (address : ℕ) → writable m prot address ≡ true
+      (address : ℕ) → writable m prot address ≡ true
       → (address / m .bytes < m .sectors * m .pages) × (sectorAt m address < m .sectors) × (prot (sectorAt m address) ≡ false)
   writable-facts address t =
-    let a = and-parts _ _ t in
-    let b = div-lt-iff-lt-mul (R .bytes) .1 (ltb-true _ _ (a .0)) in
-    (b, div-lt-iff-lt-mul (R .pages) .1 b, not-true _ (a .1))
+      let a = and-parts _ _ t in
+      let b = div-lt-iff-lt-mul (R .bytes) .1 (ltb-true _ _ (a .0)) in
+      (b, div-lt-iff-lt-mul (R .pages) .1 b, not-true _ (a .1))
 
   pub length-effect :
-    (c : Cycle) (image : List ℕ) → Whole m image → accepts m prot c image ≡ true → Whole m (effect m c image)
+      (c : Cycle) (image : List ℕ) → Whole m image → accepts m prot c image ≡ true → Whole m (effect m c image)
   length-effect (program a sent) image e t =
-    length-written m bitAnd a sent image e (writable-facts a (and-parts _ _ t .0) .0)
+      length-written m bitAnd a sent image e (writable-facts a (and-parts _ _ t .0) .0)
   length-effect (alter a sent) image e t =
-    length-written m replacing a sent image e (writable-facts a (and-parts _ _ t .0) .0)
+      length-written m replacing a sent image e (writable-facts a (and-parts _ _ t .0) .0)
   length-effect (preset a sent) image e t =
-    length-written m bitAnd a sent image e (writable-facts a (and-parts _ _ (and-parts _ _ t .0) .0) .0)
+      length-written m bitAnd a sent image e (writable-facts a (and-parts _ _ (and-parts _ _ t .0) .0) .0)
   length-effect (sectorErase a) image e t = length-erased m (sectorAt m a) image e (writable-facts a t .1)
   length-effect bulkErase image e t = length-replicate (length image) 255 ∙ e
 
@@ -117,30 +117,30 @@ module _ (m : Shape) (R : Real m) (prot : ℕ → Bool) where
     other a t e = both-ways _ (writable-facts a t .2) (ap prot e ∙ closed)
 
     written-guarded :
-      (f : ℕ → ℕ → ℕ) (a : ℕ) (sent image : List ℕ) → Whole m image → writable m prot a ≡ true
+        (f : ℕ → ℕ → ℕ) (a : ℕ) (sent image : List ℕ) → Whole m image → writable m prot a ≡ true
         → sectorOf m k (written f (m .bytes) a sent image) ≡ sectorOf m k image
     written-guarded f a sent image e t =
         block-written m f a sent image e (writable-facts a t .0) _ _ (⊎-elim (λ u. inr u) (λ u. inl u) sides)
       where
         sides :
-          (a / m .bytes * m .bytes + m .bytes ≤ k * m .pages * m .bytes)
+            (a / m .bytes * m .bytes + m .bytes ≤ k * m .pages * m .bytes)
             ⊎ (k * m .pages * m .bytes + m .pages * m .bytes ≤ a / m .bytes * m .bytes)
         sides =
-          subst
+            subst
             (λ y. (y * m .bytes + m .bytes ≤ k * m .pages * m .bytes) ⊎ (k * m .pages * m .bytes + m .pages * m .bytes ≤ y * m .bytes))
             (div-add-mod' (a / m .bytes) (m .pages))
             (out-sector (m .pages) (m .bytes) (sectorAt m a) (a / m .bytes % m .pages) k (mod-lt _ (R .pages)) (other a t))
 
     pub guarded :
-      (c : Cycle) (image : List ℕ) → Whole m image → accepts m prot c image ≡ true
+        (c : Cycle) (image : List ℕ) → Whole m image → accepts m prot c image ≡ true
         → sectorOf m k (effect m c image) ≡ sectorOf m k image
     guarded (program a sent) image e t = written-guarded bitAnd a sent image e (and-parts _ _ t .0)
     guarded (alter a sent) image e t = written-guarded replacing a sent image e (and-parts _ _ t .0)
     guarded (preset a sent) image e t = written-guarded bitAnd a sent image e (and-parts _ _ (and-parts _ _ t .0) .0)
     guarded (sectorErase a) image e t =
-      let u = apart (m .pages * m .bytes) k (sectorAt m a) (λ v. other a t (sym v)) in
-      let b = mul-assoc k (m .pages) (m .bytes) in
-      let c = mul-assoc (sectorAt m a) (m .pages) (m .bytes) in
-      block-erased m (sectorAt m a) image e (writable-facts a t .1) (k * m .pages * m .bytes) (m .pages * m .bytes)
+        let u = apart (m .pages * m .bytes) k (sectorAt m a) (λ v. other a t (sym v)) in
+        let b = mul-assoc k (m .pages) (m .bytes) in
+        let c = mul-assoc (sectorAt m a) (m .pages) (m .bytes) in
+        block-erased m (sectorAt m a) image e (writable-facts a t .1) (k * m .pages * m .bytes) (m .pages * m .bytes)
         (⊎-elim (λ v. inl (omega arith)) (λ v. inr (omega arith)) u)
     guarded bulkErase image e t = absurd (both-ways _ (free-at prot (m .sectors) k t inside) closed)

@@ -34,16 +34,17 @@ empty-or-real m = go (cases-eq (m .pages) 0) (cases-eq (m .bytes) 0)
 
 -- page j of sector k lies in sector k, and apart from any other
 pub in-sector :
-  (p z k j : ℕ) → j < p → (k * p * z ≤ (k * p + j) * z) × ((k * p + j) * z + z ≤ k * p * z + p * z)
+    (p z k j : ℕ) → j < p → (k * p * z ≤ (k * p + j) * z) × ((k * p + j) * z + z ≤ k * p * z + p * z)
 in-sector p z k j h = (omega (arith, add-mul (k * p) j z), omega (arith, add-mul (k * p) j z, below-end z j p h))
 
 pub out-sector :
-  (p z k j k′ : ℕ) → j < p → (k ≡ k′ → ⊥)
+    (p z k j k′ : ℕ) → j < p → (k ≡ k′ → ⊥)
     → ((k * p + j) * z + z ≤ k′ * p * z) ⊎ (k′ * p * z + p * z ≤ (k * p + j) * z)
 out-sector p z k j k′ h d = ⊎-elim (λ a. inl (omega (arith, t, u))) (λ a. inr (omega (arith, t, u))) (apart (p * z) k k′ d)
   where
     t : (k * p * z ≤ (k * p + j) * z) × ((k * p + j) * z + z ≤ k * p * z + p * z)
     t = in-sector p z k j h
+
     u : (k * p * z ≡ k * (p * z)) × (k′ * p * z ≡ k′ * (p * z))
     u = (mul-assoc k p z, mul-assoc k′ p z)
 
@@ -59,42 +60,46 @@ module _ (m : Shape) where
   length-page q image e h = length-block (q * m .bytes) (m .bytes) image (page-fits q image e h)
 
   pub sector-fits :
-    (k : ℕ) (image : List ℕ) → Whole m image → k < m .sectors
+      (k : ℕ) (image : List ℕ) → Whole m image → k < m .sectors
       → k * m .pages * m .bytes + m .pages * m .bytes ≤ length image
   sector-fits k image e h =
-    omega
-      (arith,
+      omega (
+        arith,
         mul-le-mul-right (m .bytes) (below-end (m .pages) k (m .sectors) h),
-        add-mul (k * m .pages) (m .pages) (m .bytes))
+        add-mul (k * m .pages) (m .pages) (m .bytes),
+      )
 
 module _ (m : Shape) (R : Real m) where
   -- an address lies in its sector
   pub in-its-sector :
-    (a : ℕ)
+      (a : ℕ)
       → (sectorAt m a * m .pages * m .bytes ≤ a) × (a < sectorAt m a * m .pages * m .bytes + m .pages * m .bytes)
-  in-its-sector a =
-      (omega (arith, t, div-add-mod' a (m .bytes)),
-        omega (arith, t, div-add-mod' a (m .bytes), mod-lt a (R .bytes)))
+  in-its-sector a = (
+    omega (arith, t, div-add-mod' a (m .bytes)),
+    omega (arith, t, div-add-mod' a (m .bytes), mod-lt a (R .bytes)),
+  )
     where
       t : (sectorAt m a * m .pages * m .bytes ≤ a / m .bytes * m .bytes)
-            × (a / m .bytes * m .bytes + m .bytes ≤ sectorAt m a * m .pages * m .bytes + m .pages * m .bytes)
+          × (a / m .bytes * m .bytes + m .bytes ≤ sectorAt m a * m .pages * m .bytes + m .pages * m .bytes)
       t =
-        subst
+          subst
           (λ q. (sectorAt m a * m .pages * m .bytes ≤ q * m .bytes) × (q * m .bytes + m .bytes ≤ sectorAt m a * m .pages * m .bytes + m .pages * m .bytes))
           (div-add-mod' (a / m .bytes) (m .pages))
           (in-sector (m .pages) (m .bytes) (sectorAt m a) (a / m .bytes % m .pages) (mod-lt _ (R .pages)))
 
   -- images that agree in a sector agree in each of its bytes
   pub same-byte :
-    (a : ℕ) (image other : List ℕ) → sectorOf m (sectorAt m a) image ≡ sectorOf m (sectorAt m a) other
+      (a : ℕ) (image other : List ℕ) → sectorOf m (sectorAt m a) image ≡ sectorOf m (sectorAt m a) other
       → getD image a 0 ≡ getD other a 0
   same-byte a image other e = sym (byte image) ∙ (ap (λ y. getD y (a - start) 0) e ∙ byte other)
     where
       start : ℕ
       start = sectorAt m a * m .pages * m .bytes
+
       at : start + (a - start) ≡ a
       at = omega (arith, in-its-sector a)
+
       byte : (i : List ℕ) → getD (sectorOf m (sectorAt m a) i) (a - start) 0 ≡ getD i a 0
       byte i =
-        getD-block start (m .pages * m .bytes) i (a - start) (omega (arith, in-its-sector a))
+          getD-block start (m .pages * m .bytes) i (a - start) (omega (arith, in-its-sector a))
           ∙ ap (λ y. getD i y 0) at

@@ -15,5 +15,5 @@ worked-writes =
       bulk = refl;
       by-sectors = refl;
       stays = refl;
-      protected = refl
+      protected = refl;
     }

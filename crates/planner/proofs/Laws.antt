@@ -14,7 +14,7 @@ lex a b = fewest .leq a b
 lex-true : (a b : ℕ × ℕ) → lex a b ≡ true → (a .0 < b .0) ⊎ ((a .0 ≡ b .0) × (a .1 ≤ b .1))
 lex-true a b t =
     ⊎-elim (λ u. inl (ltb-true _ _ u))
-      (λ u. let v = and-parts _ _ u in inr (eqb-true _ _ (v .0), leb-true _ _ (v .1))) (or-cases _ _ t)
+    (λ u. let v = and-parts _ _ u in inr (eqb-true _ _ (v .0), leb-true _ _ (v .1))) (or-cases _ _ t)
 
 lex-false : (a b : ℕ × ℕ) → lex a b ≡ false → (b .0 ≤ a .0) × ((a .0 ≡ b .0 → ⊥) ⊎ (b .1 < a .1))
 lex-false a b t =
@@ -35,12 +35,12 @@ fewest-lawful z =
       plus-assoc = λ a b c. pair _ _ _ _ (omega arith) (omega arith);
       plus-comm = λ a b. pair _ _ _ _ (omega arith) (omega arith);
       plus-mono =
-        λ a b c d t u.
+          λ a b c d t u.
           let v = lex-true a b t in
           let w = lex-true c d u in
           lex-by (a .0 + c .0, a .1 + c .1) (b .0 + d .0, b .1 + d .1) (λ h. omega arith);
       page-mono = λ a b h. lex-by (1, a) (1, b) (λ k. omega arith);
-      page-two = λ a b h k. lex-by (1, z) (2, a + b) (λ n. omega arith)
+      page-two = λ a b h k. lex-by (1, z) (2, a + b) (λ n. omega arith);
     }
   where
     pair : (a b c d : ℕ) → a ≡ c → b ≡ d → _≡_ {A = ℕ × ℕ} (a, b) (c, d)

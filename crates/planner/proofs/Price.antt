@@ -23,69 +23,70 @@ module _ {C : Type 0} {K : Cost C} {z : ℕ} (L : Lawful K z) where
   spent-join (c ∷ l) k = ap (λ y. K .plus (price K c) y) (spent-join l k) ∙ sym (L .plus-assoc _ _ _)
 
   spent-list :
-    (n : ℕ) (f : ℕ → List Cycle) (g : ℕ → C) → ((j : ℕ) → spent K (f j) ≡ g j) → spent K (listTo n f) ≡ sumTo K n g
+      (n : ℕ) (f : ℕ → List Cycle) (g : ℕ → C) → ((j : ℕ) → spent K (f j) ≡ g j) → spent K (listTo n f) ≡ sumTo K n g
   spent-list zero f g h = refl
   spent-list (suc n) f g h = spent-join (listTo n f) (f n) ∙ ap₂ (λ a b. K .plus a b) (spent-list n f g h) (h n)
 
   spent-sending :
-    (kind : ℕ → List ℕ → Cycle) → ((a : ℕ) (sent : List ℕ) → price K (kind a sent) ≡ K .page (length sent))
+      (kind : ℕ → List ℕ → Cycle) → ((a : ℕ) (sent : List ℕ) → price K (kind a sent) ≡ K .page (length sent))
       → (q : ℕ) (new : List ℕ) (w : Option (ℕ × ℕ)) → spent K (sending kind z q new w) ≡ windowCost K w
   spent-sending kind h q new None = refl
   spent-sending kind h q new (Some w) =
-    plus-none L _ ∙ (h _ _ ∙ ap (λ y. K .page y) (length-bytesFrom z new (w .0) (w .1)))
+      plus-none L _ ∙ (h _ _ ∙ ap (λ y. K .page y) (length-bytesFrom z new (w .0) (w .1)))
 
 keep-price :
-  {C : Type 0} (K : Cost C) (b : Bool) (a : ℕ) (sent : List ℕ) → price K (cond b program alter a sent) ≡ K .page (length sent)
+    {C : Type 0} (K : Cost C) (b : Bool) (a : ℕ) (sent : List ℕ) → price K (cond b program alter a sent) ≡ K .page (length sent)
 keep-price K true a sent = refl
 keep-price K false a sent = refl
 
 module _ {C : Type 0} {K : Cost C} (m : Shape) (L : Lawful K (m .bytes)) (prot : ℕ → Bool) (image wanted : List ℕ) where
   presets-spent :
-    (k : ℕ) → spent K (pagesOf m (presets (m .bytes) wanted) k) ≡ overSector K m (erasedPage K (m .bytes) wanted) k
+      (k : ℕ) → spent K (pagesOf m (presets (m .bytes) wanted) k) ≡ overSector K m (erasedPage K (m .bytes) wanted) k
   presets-spent k = spent-list L (m .pages) _ _ (λ j. spent-sending L preset (λ a sent. refl) _ _ _)
 
   keep-spent : (q : ℕ) → spent K (keepCycles (m .bytes) image wanted q) ≡ keepPage K (m .bytes) image wanted q
   keep-spent q =
-    let b = lowers (page (m .bytes) q image) (page (m .bytes) q wanted) in
-    spent-sending L (cond b program alter) (keep-price K b) q (page (m .bytes) q wanted)
+      let b = lowers (page (m .bytes) q image) (page (m .bytes) q wanted) in
+      spent-sending L (cond b program alter) (keep-price K b) q (page (m .bytes) q wanted)
       (window (m .bytes) (page (m .bytes) q image) (page (m .bytes) q wanted))
 
   sector-spent :
-    (k : ℕ)
+      (k : ℕ)
       → spent K (sectorPlan K m image wanted k)
-        ≡ sectorCost K m (keepPage K (m .bytes) image wanted) (erasedPage K (m .bytes) wanted) k
+      ≡ sectorCost K m (keepPage K (m .bytes) image wanted) (erasedPage K (m .bytes) wanted) k
   sector-spent k =
       go
-        (K .leq (overSector K m (keepPage K (m .bytes) image wanted) k) (eraseCost K m (erasedPage K (m .bytes) wanted) k))
+      (K .leq (overSector K m (keepPage K (m .bytes) image wanted) k) (eraseCost K m (erasedPage K (m .bytes) wanted) k))
     where
       go :
-        (b : Bool)
+          (b : Bool)
           → spent K
-            (cond b (pagesOf m (keepCycles (m .bytes) image wanted) k)
-              (sectorErase (k * m .pages * m .bytes) ∷ pagesOf m (presets (m .bytes) wanted) k))
-            ≡ cond b (overSector K m (keepPage K (m .bytes) image wanted) k) (eraseCost K m (erasedPage K (m .bytes) wanted) k)
+          (cond b (pagesOf m (keepCycles (m .bytes) image wanted) k)
+          (sectorErase (k * m .pages * m .bytes) ∷ pagesOf m (presets (m .bytes) wanted) k))
+          ≡ cond b (overSector K m (keepPage K (m .bytes) image wanted) k) (eraseCost K m (erasedPage K (m .bytes) wanted) k)
       go true = spent-list L (m .pages) _ _ (λ j. keep-spent (k * m .pages + j))
       go false = ap (λ y. K .plus (K .sector) y) (presets-spent k)
 
   pub plan-spent : spent K (plan K m prot image wanted) ≡ leastCost K m prot image wanted
   plan-spent =
       go (free prot (m .sectors))
-        (K .leq (sectorsCost K m (keepPage K (m .bytes) image wanted) (erasedPage K (m .bytes) wanted))
-          (bulkCost K m (erasedPage K (m .bytes) wanted)))
+      (K .leq (sectorsCost K m (keepPage K (m .bytes) image wanted) (erasedPage K (m .bytes) wanted))
+      (bulkCost K m (erasedPage K (m .bytes) wanted)))
     where
       by-sectors :
-        spent K (listTo (m .sectors) (sectorPlan K m image wanted))
+          spent K (listTo (m .sectors) (sectorPlan K m image wanted))
           ≡ sectorsCost K m (keepPage K (m .bytes) image wanted) (erasedPage K (m .bytes) wanted)
       by-sectors = spent-list L (m .sectors) _ _ sector-spent
+
       go :
-        (b c : Bool)
+          (b c : Bool)
           → spent K
-            (cond b (cond c (listTo (m .sectors) (sectorPlan K m image wanted)) (bulkPlan m wanted))
-              (listTo (m .sectors) (sectorPlan K m image wanted)))
-            ≡ cond b
-              (cond c (sectorsCost K m (keepPage K (m .bytes) image wanted) (erasedPage K (m .bytes) wanted))
-                (bulkCost K m (erasedPage K (m .bytes) wanted)))
-              (sectorsCost K m (keepPage K (m .bytes) image wanted) (erasedPage K (m .bytes) wanted))
+          (cond b (cond c (listTo (m .sectors) (sectorPlan K m image wanted)) (bulkPlan m wanted))
+          (listTo (m .sectors) (sectorPlan K m image wanted)))
+          ≡ cond b
+          (cond c (sectorsCost K m (keepPage K (m .bytes) image wanted) (erasedPage K (m .bytes) wanted))
+          (bulkCost K m (erasedPage K (m .bytes) wanted)))
+          (sectorsCost K m (keepPage K (m .bytes) image wanted) (erasedPage K (m .bytes) wanted))
       go true true = by-sectors
       go true false = ap (λ y. K .plus (K .bulk) y) (spent-list L (m .sectors) _ _ presets-spent)
       go false true = by-sectors

@@ -27,30 +27,30 @@ round z a j h k =
 behind-round : (z a j : ℕ) → a < z → j < z → behind z a ((a + j) % z) ≡ j
 behind-round z a j h k =
     cond-both (leb a ((a + j) % z)) _ _ (λ y. y ≡ j)
-      (λ t. let u = leb-true _ _ t in omega (arith, u, round z a j h k))
-      (λ t. let u = leb-false _ _ t in omega (arith, u, round z a j h k))
+    (λ t. let u = leb-true _ _ t in omega (arith, u, round z a j h k))
+    (λ t. let u = leb-false _ _ t in omega (arith, u, round z a j h k))
 
 round-behind : (z a i : ℕ) → a < z → i < z → i ≡ (a + behind z a i) % z
 round-behind z a i h k =
     cond-both (leb a i) (i - a) (i + z - a) (λ y. i ≡ (a + y) % z)
-      (λ t.
-        let u = leb-true _ _ t in
-        let v : a + (i - a) ≡ i = omega arith in sym (ap (λ y. y % z) v ∙ mod-eq-of-lt k))
-      (λ t.
-        let u = leb-false _ _ t in
-        let v : a + (i + z - a) ≡ i + z = omega arith in
-        sym (ap (λ y. y % z) v ∙ (add-mod-right i z ∙ mod-eq-of-lt k)))
+    (λ t.
+    let u = leb-true _ _ t in
+    let v : a + (i - a) ≡ i = omega arith in sym (ap (λ y. y % z) v ∙ mod-eq-of-lt k))
+    (λ t.
+    let u = leb-false _ _ t in
+    let v : a + (i + z - a) ≡ i + z = omega arith in
+    sym (ap (λ y. y % z) v ∙ (add-mod-right i z ∙ mod-eq-of-lt k)))
 
 -- a page cycle leaves what lies outside its run
 pub merged-off :
-  (f : ℕ → ℕ → ℕ) (z : ℕ) (old : List ℕ) (a : ℕ) (sent : List ℕ) → length old ≡ z → a < z → length sent ≤ z
+    (f : ℕ → ℕ → ℕ) (z : ℕ) (old : List ℕ) (a : ℕ) (sent : List ℕ) → length old ≡ z → a < z → length sent ≤ z
     → (i : ℕ) → i < z → length sent ≤ behind z a i → getD (merged f old (cover z a sent)) i 0 ≡ getD old i 0
 merged-off f z old a sent e h k i l t =
     getD-merged f old _ i (omega arith) ∙ ap (λ y. joint f (getD old i 0) y) (cover-off z a sent i l away)
   where
     away : (j : ℕ) → j < length sent → i ≡ (a + j) % z → ⊥
     away j u v =
-      let b : behind z a i ≡ j = ap (λ y. behind z a y) v ∙ behind-round z a j h (omega arith) in omega arith
+        let b : behind z a i ≡ j = ap (λ y. behind z a y) v ∙ behind-round z a j h (omega arith) in omega arith
 
 pub length-bytesFrom : (z : ℕ) (new : List ℕ) (a n : ℕ) → length (bytesFrom z new a n) ≡ n
 length-bytesFrom z new a zero = refl
@@ -62,7 +62,7 @@ InRun z a n i = (j : ℕ) × (j < n) × (i ≡ (a + j) % z)
 
 -- each place of the run is laid with the wanted byte
 laid-sent :
-  (z : ℕ) (new : List ℕ) (c : List (Option ℕ)) (a n i : ℕ) → length c ≡ z → i < z
+    (z : ℕ) (new : List ℕ) (c : List (Option ℕ)) (a n i : ℕ) → length c ≡ z → i < z
     → (getD c i None ≡ Some (getD new i 0)) ⊎ InRun z a n i
     → getD (laid z c a (map Some (bytesFrom z new a n))) i None ≡ Some (getD new i 0)
 laid-sent z new c a zero i e l (inl t) = t
@@ -73,25 +73,26 @@ laid-sent z new c a (suc n) i e l t =
     far : (i ≡ a % z → ⊥) → (j : ℕ) → j < suc n → i ≡ (a + j) % z → InRun z (suc a) n i
     far d zero u v = absurd (d (v ∙ ap (λ y. y % z) (add-zero a)))
     far d (suc j) u v = let g : a + suc j ≡ suc a + j = omega arith in (j, omega arith, v ∙ ap (λ y. y % z) g)
+
     go :
-      (i ≡ a % z) ⊎ (i ≡ a % z → ⊥) → (getD c i None ≡ Some (getD new i 0)) ⊎ InRun z a (suc n) i
+        (i ≡ a % z) ⊎ (i ≡ a % z → ⊥) → (getD c i None ≡ Some (getD new i 0)) ⊎ InRun z a (suc n) i
         → (getD (set c (a % z) (Some (getD new (a % z) 0))) i None ≡ Some (getD new i 0)) ⊎ InRun z (suc a) n i
     go (inl q) s =
-      inl
+        inl
         (subst (λ y. getD (set c y (Some (getD new y 0))) i None ≡ Some (getD new i 0)) q
-          (getD-set-same c i _ None (omega arith)))
+        (getD-set-same c i _ None (omega arith)))
     go (inr d) (inl s) = inl (getD-set-other c (a % z) i _ None d ∙ s)
     go (inr d) (inr s) = inr (far d (s .0) (s .1) (s .2))
 
 cover-sent :
-  (z : ℕ) (new : List ℕ) (a n i : ℕ) → i < z → InRun z a n i
+    (z : ℕ) (new : List ℕ) (a n i : ℕ) → i < z → InRun z a n i
     → getD (cover z a (bytesFrom z new a n)) i None ≡ Some (getD new i 0)
 unfolding cover
 cover-sent z new a n i l t = laid-sent z new (replicate z None) a n i (length-replicate z None) l (inr t)
 
 -- a cycle that sends a window leaves the wanted page, if f gives the wanted byte wherever it is sent
 pub merged-sent :
-  (f : ℕ → ℕ → ℕ) (z : ℕ) (old new : List ℕ) (w : ℕ × ℕ) → length old ≡ z → length new ≡ z → Shortest z old new w
+    (f : ℕ → ℕ → ℕ) (z : ℕ) (old new : List ℕ) (w : ℕ × ℕ) → length old ≡ z → length new ≡ z → Shortest z old new w
     → ((i : ℕ) → i < z → f (getD old i 0) (getD new i 0) ≡ getD new i 0)
     → merged f old (cover z (w .0) (bytesFrom z new (w .0) (w .1))) ≡ new
 merged-sent f z old new w e e′ v h =
@@ -99,24 +100,28 @@ merged-sent f z old new w e e′ v h =
   where
     sent : List ℕ
     sent = bytesFrom z new (w .0) (w .1)
+
     long : length sent ≡ w .1
     long = length-bytesFrom z new (w .0) (w .1)
+
     inside : (i : ℕ) → i < z → behind z (w .0) i < w .1 → getD (merged f old (cover z (w .0) sent)) i 0 ≡ getD new i 0
     inside i l t =
-      getD-merged f old _ i (omega arith)
+        getD-merged f old _ i (omega arith)
         ∙ (ap (λ y. joint f (getD old i 0) y)
-          (cover-sent z new (w .0) (w .1) i l (behind z (w .0) i, t, round-behind z (w .0) i (v .starts) l))
+        (cover-sent z new (w .0) (w .1) i l (behind z (w .0) i, t, round-behind z (w .0) i (v .starts) l))
         ∙ h i l)
+
     outside : (i : ℕ) → i < z → w .1 ≤ behind z (w .0) i → getD (merged f old (cover z (w .0) sent)) i 0 ≡ getD new i 0
     outside i l t =
-      merged-off f z old (w .0) sent e (v .starts) (omega (arith, long, v .fits)) i l (omega (arith, long))
+        merged-off f z old (w .0) sent e (v .starts) (omega (arith, long, v .fits)) i l (omega (arith, long))
         ∙ ⊎-elim (λ q. q) (λ n. let u = v .covers i l n in absurd (omega arith)) (cases-eq (getD old i 0) (getD new i 0))
+
     each : (i : ℕ) → i < z → getD (merged f old (cover z (w .0) sent)) i 0 ≡ getD new i 0
     each i l = ⊎-elim (λ t. inside i l t) (λ t. outside i l t) (cases-lt (behind z (w .0) i) (w .1))
 
 -- where no bit rises, old AND new is new
 pub lowers-at :
-  (old new : List ℕ) (i : ℕ) → i < length old → i < length new → lowers old new ≡ true
+    (old new : List ℕ) (i : ℕ) → i < length old → i < length new → lowers old new ≡ true
     → bitAnd (getD old i 0) (getD new i 0) ≡ getD new i 0
 lowers-at [] new i l k t = absurd (omega arith)
 lowers-at (x ∷ old) [] i l k t = absurd (omega arith)

@@ -28,14 +28,14 @@ block-mid front mid back at e =
 
 -- the steps of a list, wherever its data begin
 steps-again :
-  (l : List Cycle) (front : List ℕ) (at : ℕ) → length front ≡ at → cyclesOf (front ++ dataOf l) (stepsFrom at l) ≡ l
+    (l : List Cycle) (front : List ℕ) (at : ℕ) → length front ≡ at → cyclesOf (front ++ dataOf l) (stepsFrom at l) ≡ l
 steps-again [] front at e = refl
 steps-again (c ∷ l) front at e =
     ap₂ (λ x y. x ∷ y)
-      (ap (cycleOf (kindOf c) (addressOf c)) (block-mid front (sentBy c) (dataOf l) at e) ∙ cycle-again c)
-      (ap (λ y. cyclesOf y (stepsFrom (at + length (sentBy c)) l)) (sym (append-assoc front (sentBy c) (dataOf l)))
-        ∙ steps-again l (front ++ sentBy c) (at + length (sentBy c))
-          (length-append front (sentBy c) ∙ ap (λ n. n + length (sentBy c)) e))
+    (ap (cycleOf (kindOf c) (addressOf c)) (block-mid front (sentBy c) (dataOf l) at e) ∙ cycle-again c)
+    (ap (λ y. cyclesOf y (stepsFrom (at + length (sentBy c)) l)) (sym (append-assoc front (sentBy c) (dataOf l)))
+    ∙ steps-again l (front ++ sentBy c) (at + length (sentBy c))
+    (length-append front (sentBy c) ∙ ap (λ n. n + length (sentBy c)) e))
 
 price-counts : (c : Cycle) → price fewest c ≡ (1, length (sentBy c))
 price-counts (program a sent) = refl
@@ -48,7 +48,7 @@ spent-counts : (l : List Cycle) (at : ℕ) → spent fewest l ≡ (length (steps
 spent-counts [] at = refl
 spent-counts (c ∷ l) at =
     ap₂ (λ x y. fewest .plus x y) (price-counts c) (spent-counts l (at + length (sentBy c)))
-      ∙ ap₂ (λ x y. (x, y)) (one-add _) (sym (length-append (sentBy c) (dataOf l)))
+    ∙ ap₂ (λ x y. (x, y)) (one-add _) (sym (length-append (sentBy c) (dataOf l)))
 
 pub steps-are-cycles : StepsAreCycles
 steps-are-cycles l = (steps-again l [] 0 refl, spent-counts l 0)

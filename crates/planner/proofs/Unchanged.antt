@@ -30,19 +30,19 @@ module _ {C : Type 0} {K : Cost C} (m : Shape) (L : Lawful K (m .bytes)) (image 
 
   pub keep-none : (k j : ℕ) → k < m .sectors → j < m .pages → Le K (keep (k * m .pages + j)) (K .none)
   keep-none k j l i =
-    subst (λ o. Le K (windowCost K o) (K .none))
+      subst (λ o. Le K (windowCost K o) (K .none))
       (sym (window-same (m .bytes) (page (m .bytes) (k * m .pages + j) image) (length-page m _ image whole (number-lt m k j l i))))
       (L .leq-refl _)
 
   page-none : (k j : ℕ) → k < m .sectors → j < m .pages → keepCycles (m .bytes) image image (k * m .pages + j) ≡ []
   page-none k j l i =
-    let at = page (m .bytes) (k * m .pages + j) image in
-    ap (λ o. sending (cond (lowers at at) program alter) (m .bytes) (k * m .pages + j) at o)
+      let at = page (m .bytes) (k * m .pages + j) image in
+      ap (λ o. sending (cond (lowers at at) program alter) (m .bytes) (k * m .pages + j) at o)
       (window-same (m .bytes) at (length-page m _ image whole (number-lt m k j l i)))
 
   sector-none : (k : ℕ) → k < m .sectors → sectorPlan K m image image k ≡ []
   sector-none k l =
-    cond-true (K .leq (overSector K m keep k) (eraseCost K m erased k)) _ _
+      cond-true (K .leq (overSector K m keep k) (eraseCost K m erased k)) _ _
       (L .leq-trans _ _ _ (sum-none L (m .pages) _ (λ j i. keep-none k j l i)) (L .none-least _))
       ∙ list-none (m .pages) _ (λ j i. page-none k j l i)
 
@@ -51,15 +51,16 @@ module _ {C : Type 0} {K : Cost C} (m : Shape) (L : Lawful K (m .bytes)) (image 
     where
       none : listTo (m .sectors) (sectorPlan K m image image) ≡ []
       none = list-none (m .sectors) _ sector-none
+
       go :
-        (b : Bool)
+          (b : Bool)
           → cond b
-            (cond (K .leq (sectorsCost K m keep erased) (bulkCost K m erased)) (listTo (m .sectors) (sectorPlan K m image image))
-              (bulkPlan m image))
-            (listTo (m .sectors) (sectorPlan K m image image))
-            ≡ []
+          (cond (K .leq (sectorsCost K m keep erased) (bulkCost K m erased)) (listTo (m .sectors) (sectorPlan K m image image))
+          (bulkPlan m image))
+          (listTo (m .sectors) (sectorPlan K m image image))
+          ≡ []
       go true =
-        cond-true (K .leq (sectorsCost K m keep erased) (bulkCost K m erased)) _ _
+          cond-true (K .leq (sectorsCost K m keep erased) (bulkCost K m erased)) _ _
           (L .leq-trans _ _ _ (sectors-none L m keep erased keep-none) (L .none-least _))
           ∙ none
       go false = none

@@ -24,16 +24,16 @@ none-leads m prot image wanted I W a b l g =
   where
     changed : Real m → ⊥
     changed R =
-      b .differs
+        b .differs
         (same-byte m R a image wanted
-          (sector-stays m R prot (sectorAt m a) (b .protected)
-            (div-lt-iff-lt-mul (R .pages) .1 (div-lt-iff-lt-mul (R .bytes) .1 (b .inside))) l image wanted (I .whole) g))
+        (sector-stays m R prot (sectorAt m a) (b .protected)
+        (div-lt-iff-lt-mul (R .pages) .1 (div-lt-iff-lt-mul (R .bytes) .1 (b .inside))) l image wanted (I .whole) g))
 
 module _ (m : Shape) (prot : ℕ → Bool) where
   -- the byte at the address, of those counted from `at`, differs and is protected
   abbrev BarredAt : ℕ → List ℕ → List ℕ → ℕ → Type 0
   BarredAt at xs ys i =
-    (i < length xs) × (i < length ys) × (prot (sectorAt m (at + i)) ≡ true) × (getD xs i 0 ≡ getD ys i 0 → ⊥)
+      (i < length xs) × (i < length ys) × (prot (sectorAt m (at + i)) ≡ true) × (getD xs i 0 ≡ getD ys i 0 → ⊥)
 
   -- none, or the lowest, in counted places
   abbrev Lowest : ℕ → List ℕ → List ℕ → Option ℕ → Type 0
@@ -48,13 +48,13 @@ module _ (m : Shape) (prot : ℕ → Bool) where
       next = omega arith
 
   not-here :
-    (at x y : ℕ) (xs ys : List ℕ) → (not (eqb x y) && prot (sectorAt m at)) ≡ false → BarredAt at (x ∷ xs) (y ∷ ys) 0 → ⊥
+      (at x y : ℕ) (xs ys : List ℕ) → (not (eqb x y) && prot (sectorAt m at)) ≡ false → BarredAt at (x ∷ xs) (y ∷ ys) 0 → ⊥
   not-here at x y xs ys t b =
-    ⊎-elim (λ u. b .3 (eqb-true x y (not-false _ u)))
+      ⊎-elim (λ u. b .3 (eqb-true x y (not-false _ u)))
       (λ u. both-ways _ u (subst (λ v. prot (sectorAt m v) ≡ true) (add-zero at) (b .2))) (and-cases _ _ t)
 
   later :
-    (at x y : ℕ) (xs ys : List ℕ) (o : Option ℕ) → (not (eqb x y) && prot (sectorAt m at)) ≡ false → Lowest (suc at) xs ys o
+      (at x y : ℕ) (xs ys : List ℕ) (o : Option ℕ) → (not (eqb x y) && prot (sectorAt m at)) ≡ false → Lowest (suc at) xs ys o
       → Lowest at (x ∷ xs) (y ∷ ys) o
   later at x y xs ys None t h = λ i b. go i b
     where
@@ -65,12 +65,15 @@ module _ (m : Shape) (prot : ℕ → Bool) where
     where
       next : at + suc (h .0) ≡ suc at + h .0
       next = omega arith
+
       at-next : a ≡ suc at + h .0
       at-next = h .1
+
       here : BarredAt at (x ∷ xs) (y ∷ ys) (suc (h .0))
       here =
-        let b = h .2 in
-        (omega (arith, b .0), omega (arith, b .1), subst (λ v. prot (sectorAt m v) ≡ true) (sym next) (b .2), b .3)
+          let b = h .2 in
+          (omega (arith, b .0), omega (arith, b .1), subst (λ v. prot (sectorAt m v) ≡ true) (sym next) (b .2), b .3)
+
       lower : (j : ℕ) → j < suc (h .0) → BarredAt at (x ∷ xs) (y ∷ ys) j → ⊥
       lower zero l b = not-here at x y xs ys t b
       lower (suc j) l b = h .3 j (omega arith) (further at x y xs ys j b)
@@ -79,15 +82,21 @@ module _ (m : Shape) (prot : ℕ → Bool) where
   lowest at [] ys = λ i b. let h = b .0 in omega arith
   lowest at (x ∷ xs) [] = λ i b. let h = b .1 in omega arith
   lowest at (x ∷ xs) (y ∷ ys) =
-    let ih = lowest (suc at) xs ys in
-    cond-both (not (eqb x y) && prot (sectorAt m at)) (Some at) (barredFrom m prot (suc at) xs ys)
+      let ih = lowest (suc at) xs ys in
+      cond-both (not (eqb x y) && prot (sectorAt m at)) (Some at) (barredFrom m prot (suc at) xs ys)
       (λ o. Lowest at (x ∷ xs) (y ∷ ys) o)
       (λ t.
-        let a = and-parts _ _ t in
-        (0, sym (add-zero at),
-          (omega arith, omega arith, subst (λ v. prot (sectorAt m v) ≡ true) (sym (add-zero at)) (a .1),
-            eqb-false x y (not-true _ (a .0))),
-          λ j l b. omega arith))
+      let a = and-parts _ _ t in (
+        0,
+        sym (add-zero at),
+        (
+          omega arith,
+          omega arith,
+          subst (λ v. prot (sectorAt m v) ≡ true) (sym (add-zero at)) (a .1),
+          eqb-false x y (not-true _ (a .0)),
+        ),
+        λ j l b. omega arith,
+      ))
       (λ t. later at x y xs ys _ t ih)
 
 pub lowest-found : LowestFound
@@ -95,21 +104,28 @@ lowest-found m prot image wanted I W = go (lowestBarred m prot image wanted) (lo
   where
     first : (i : ℕ) → 0 + i ≡ i
     first i = omega arith
+
     counted : (i : ℕ) → Barred m prot image wanted i → BarredAt m prot 0 image wanted i
     counted i b =
-      let h = b .inside in
-      (omega (arith, I .whole), omega (arith, W .whole),
-        subst (λ v. prot (sectorAt m v) ≡ true) (sym (first i)) (b .protected), b .differs)
+        let h = b .inside in (
+          omega (arith, I .whole),
+          omega (arith, W .whole),
+          subst (λ v. prot (sectorAt m v) ≡ true) (sym (first i)) (b .protected),
+          b .differs,
+        )
+
     uncounted : (i : ℕ) → BarredAt m prot 0 image wanted i → Barred m prot image wanted i
     uncounted i b =
-      record {
-        inside = omega (arith, I .whole, b .0);
-        protected = subst (λ v. prot (sectorAt m v) ≡ true) (first i) (b .2);
-        differs = b .3
-      }
+        record {
+          inside = omega (arith, I .whole, b .0);
+          protected = subst (λ v. prot (sectorAt m v) ≡ true) (first i) (b .2);
+          differs = b .3;
+        }
+
     go : (o : Option ℕ) → Lowest m prot 0 image wanted o → LowestIs m prot image wanted o
     go None h = λ a b. h a (counted a b)
     go (Some a) h =
-      let e : a ≡ h .0 = h .1 ∙ first (h .0) in
-      (subst (λ v. Barred m prot image wanted v) (sym e) (uncounted (h .0) (h .2)),
-        λ b l c. h .3 b (omega arith) (counted b c))
+        let e : a ≡ h .0 = h .1 ∙ first (h .0) in (
+          subst (λ v. Barred m prot image wanted v) (sym e) (uncounted (h .0) (h .2)),
+          λ b l c. h .3 b (omega arith) (counted b c),
+        )

@@ -40,26 +40,29 @@ module _ (z : ℕ) (old new : List ℕ) (e : min (length old) (length new) ≡ z
         some-bytes = rw (a .1) (span-some z _ d ds);
         fits = le-trans (leastAt-le f (pred z) 0 (omega arith)) (at-most 0 z (λ i l n. behind-lt z 0 i some-place l));
         covers =
-          rw (a .1)
+            rw (a .1)
             (subst (λ y. Covers z old new (leastAt f (pred z) .0) (span z (leastAt f (pred z) .0) y)) t
-              (covered (leastAt f (pred z) .0)));
+            (covered (leastAt f (pred z) .0)));
         shortest = λ b n l c. le-trans (leastAt-le f (pred z) b (omega arith)) (at-most b n c);
         lowest =
-          λ b l c.
+            λ b l c.
             ⊎-elim
-              (λ u. let x = leastAt-lowest f (pred z) b u in let y = at-most b _ c in absurd (omega arith)) (λ u. u)
-              (cases-lt b (leastAt f (pred z) .0))
+            (λ u. let x = leastAt-lowest f (pred z) b u in let y = at-most b _ c in absurd (omega arith)) (λ u. u)
+            (cases-lt b (leastAt f (pred z) .0));
       }
     where
       f : ℕ → ℕ
       f b = span z b (d ∷ ds)
+
       a : (leastAt f (pred z) .0 ≤ pred z) × (leastAt f (pred z) .1 ≡ f (leastAt f (pred z) .0))
       a = leastAt-at f (pred z)
+
       at-most : (b n : ℕ) → Covers z old new b n → f b ≤ n
       at-most b n c = subst (λ y. span z b y ≤ n) t (needed b n c)
+
       some-place : 0 < z
       some-place =
-        ⊎-elim (λ u. let k = at-most 0 0 (λ i l n. absurd (omega arith)) in let s = span-some z 0 d ds in absurd (omega arith))
+          ⊎-elim (λ u. let k = at-most 0 0 (λ i l n. absurd (omega arith)) in let s = span-some z 0 d ds in absurd (omega arith))
           (λ u. omega arith) (cases-eq z 0)
 
   pub windowed : Windowed z old new (window z old new)
@@ -69,7 +72,7 @@ module _ (z : ℕ) (old new : List ℕ) where
   -- where nothing changes no run is the shortest
   pub none-shortest : (w : ℕ × ℕ) → ((i : ℕ) → i < z → getD old i 0 ≡ getD new i 0) → Shortest z old new w → ⊥
   none-shortest w same s =
-    let l = s .shortest (w .0) 0 (s .starts) (λ i l d. absurd (d (same i l))) in omega (arith, s .some-bytes)
+      let l = s .shortest (w .0) 0 (s .starts) (λ i l d. absurd (d (same i l))) in omega (arith, s .some-bytes)
 
   only : (o o′ : Option (ℕ × ℕ)) → Windowed z old new o → Windowed z old new o′ → o ≡ o′
   only None None s s′ = refl
@@ -79,17 +82,19 @@ module _ (z : ℕ) (old new : List ℕ) where
     where
       long : w .1 ≡ w′ .1
       long =
-        omega (arith, s .shortest (w′ .0) (w′ .1) (s′ .starts) (s′ .covers), s′ .shortest (w .0) (w .1) (s .starts) (s .covers))
+          omega (arith, s .shortest (w′ .0) (w′ .1) (s′ .starts) (s′ .covers), s′ .shortest (w .0) (w .1) (s .starts) (s .covers))
+
       start : w .0 ≡ w′ .0
       start =
-        omega
-          (arith,
+          omega (
+            arith,
             s .lowest (w′ .0) (s′ .starts) (subst (λ n. Covers z old new (w′ .0) n) (sym long) (s′ .covers)),
-            s′ .lowest (w .0) (s .starts) (subst (λ n. Covers z old new (w .0) n) long (s .covers)))
+            s′ .lowest (w .0) (s .starts) (subst (λ n. Covers z old new (w .0) n) long (s .covers)),
+          )
 
   -- whatever meets the words is the window
   pub window-is :
-    (o : Option (ℕ × ℕ)) → min (length old) (length new) ≡ z → Windowed z old new o → o ≡ window z old new
+      (o : Option (ℕ × ℕ)) → min (length old) (length new) ≡ z → Windowed z old new o → o ≡ window z old new
   window-is o e s = only o (window z old new) s (windowed z old new e)
 
 -- two pages of z bytes

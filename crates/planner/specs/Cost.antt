@@ -26,7 +26,7 @@ pub record Lawful {C : Type 0} (K : Cost C) (z : ℕ) : Type 0 where
   pub plus-assoc : (a b c : C) → K .plus (K .plus a b) c ≡ K .plus a (K .plus b c)
   pub plus-comm : (a b : C) → K .plus a b ≡ K .plus b a
   pub plus-mono :
-    (a b c d : C) → K .leq a b ≡ true → K .leq c d ≡ true → K .leq (K .plus a c) (K .plus b d) ≡ true
+      (a b c d : C) → K .leq a b ≡ true → K .leq c d ≡ true → K .leq (K .plus a c) (K .plus b d) ≡ true
   -- a longer page cycle costs no less
   pub page-mono : (a b : ℕ) → a ≤ b → K .leq (K .page a) (K .page b) ≡ true
   -- any two page cycles cost at least one of a whole page

@@ -13,7 +13,7 @@ fewest =
       leq = λ a b. ltb (a .0) (b .0) || (eqb (a .0) (b .0) && leb (a .1) (b .1));
       page = λ n. (1, n);
       sector = (1, 0);
-      bulk = (1, 0)
+      bulk = (1, 0);
     }
 
 -- the largest number that the code can count to

@@ -68,9 +68,9 @@ pagesOf m f k = listTo (m .pages) (λ j. f (k * m .pages + j))
 abbrev pub sectorPlan : {C : Type 0} → Cost C → Shape → List ℕ → List ℕ → ℕ → List Cycle
 sectorPlan K m image wanted k =
     cond
-      (K .leq (overSector K m (keepPage K (m .bytes) image wanted) k) (eraseCost K m (erasedPage K (m .bytes) wanted) k))
-      (pagesOf m (keepCycles (m .bytes) image wanted) k)
-      (sectorErase (k * m .pages * m .bytes) ∷ pagesOf m (presets (m .bytes) wanted) k)
+    (K .leq (overSector K m (keepPage K (m .bytes) image wanted) k) (eraseCost K m (erasedPage K (m .bytes) wanted) k))
+    (pagesOf m (keepCycles (m .bytes) image wanted) k)
+    (sectorErase (k * m .pages * m .bytes) ∷ pagesOf m (presets (m .bytes) wanted) k)
 
 abbrev pub bulkPlan : Shape → List ℕ → List Cycle
 bulkPlan m wanted = bulkErase ∷ listTo (m .sectors) (pagesOf m (presets (m .bytes) wanted))
@@ -81,4 +81,4 @@ plan K m prot image wanted =
     let erased = erasedPage K (m .bytes) wanted in
     let bySectors = listTo (m .sectors) (sectorPlan K m image wanted) in
     cond (free prot (m .sectors))
-      (cond (K .leq (sectorsCost K m keep erased) (bulkCost K m erased)) bySectors (bulkPlan m wanted)) bySectors
+    (cond (K .leq (sectorsCost K m keep erased) (bulkCost K m erased)) bySectors (bulkPlan m wanted)) bySectors

@@ -36,7 +36,7 @@ abbrev pub stepsFrom : ℕ → List Cycle → List Step
 stepsFrom at [] = []
 stepsFrom at (c ∷ l) =
     record { kind = kindOf c; address = addressOf c; length = length (sentBy c); place = at }
-      ∷ stepsFrom (at + length (sentBy c)) l
+    ∷ stepsFrom (at + length (sentBy c)) l
 
 abbrev pub stepsOf : List Cycle → List Step
 stepsOf l = stepsFrom 0 l

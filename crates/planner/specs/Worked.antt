@@ -60,25 +60,25 @@ pub record WorkedWrites : Type 0 where
   pub one-byte : onBench openStatus erased 0 (0 ∷ []) ≡ planned (1, 1) (step Program 0 1 0 ∷ []) (0 ∷ [])
   -- keeping the sector costs more than erasing it
   pub keeping :
-    overSector fewest bench (keepPage fewest 64 twoPages (put 0 oneLow twoPages)) 0 ≡ (2, 127)
+      overSector fewest bench (keepPage fewest 64 twoPages (put 0 oneLow twoPages)) 0 ≡ (2, 127)
   pub erase-first :
-    onBench openStatus twoPages 0 oneLow
+      onBench openStatus twoPages 0 oneLow
       ≡ planned (2, 1) (step SectorErase 0 0 0 ∷ step Preset 0 1 0 ∷ []) (0 ∷ [])
   -- the window comes round at the page's end
   pub round-the-end :
-    onBench openStatus erased 1 (0 ∷ all 60 255 ++ 0 ∷ [])
+      onBench openStatus erased 1 (0 ∷ all 60 255 ++ 0 ∷ [])
       ≡ planned (1, 4) (step Program 62 4 0 ∷ []) (0 ∷ 255 ∷ 255 ∷ 0 ∷ [])
   -- of two equally long windows the lower
   pub straight :
-    onBench openStatus erased 0 (0 ∷ all 31 255 ++ 0 ∷ [])
+      onBench openStatus erased 0 (0 ∷ all 31 255 ++ 0 ∷ [])
       ≡ planned (1, 33) (step Program 0 33 0 ∷ []) (0 ∷ all 31 255 ++ 0 ∷ [])
   -- one bulk erase for all sectors
   pub bulk : onBench openStatus spotted 0 erased ≡ planned (1, 0) (step BulkErase 0 0 0 ∷ []) []
   -- none where a sector is protected
   pub by-sectors :
-    onBench topStatus spotted 0 (all 1792 255)
+      onBench topStatus spotted 0 (all 1792 255)
       ≡ planned (7, 0)
-        (erasing 0 ∷ erasing 1 ∷ erasing 2 ∷ erasing 3 ∷ erasing 4 ∷ erasing 5 ∷ erasing 6 ∷ []) []
+      (erasing 0 ∷ erasing 1 ∷ erasing 2 ∷ erasing 3 ∷ erasing 4 ∷ erasing 5 ∷ erasing 6 ∷ []) []
   -- a protected byte that stays, and one that would change
   pub stays : onBench topStatus erased 1792 (255 ∷ []) ≡ planned (0, 0) [] []
   pub protected : onBench topStatus erased 1792 (0 ∷ []) ≡ refused (protectedAt 1792)

@@ -44,17 +44,17 @@ unlessBarred (Some address) answer = refused (protectedAt address)
 abbrev pub unlessShort : ℕ → ℕ → ℕ × ℕ → List Cycle → Answer
 unlessShort stepRoom dataRoom cost l =
     cond (leb (cost .0) stepRoom)
-      (cond (leb (cost .1) dataRoom) (planned cost (stepsOf l) (dataOf l)) (refused (dataShort cost)))
-      (refused (stepsShort cost))
+    (cond (leb (cost .1) dataRoom) (planned cost (stepsOf l) (dataOf l)) (refused (dataShort cost)))
+    (refused (stepsShort cost))
 
 -- planning from an image to a wanted one
 abbrev pub planTo : Shape → (ℕ → Bool) → List ℕ → List ℕ → ℕ → ℕ → Answer
 planTo m prot image wanted stepRoom dataRoom =
     unlessBarred (lowestBarred m prot image wanted)
-      (unlessShort stepRoom dataRoom (leastCost fewest m prot image wanted) (plan fewest m prot image wanted))
+    (unlessShort stepRoom dataRoom (leastCost fewest m prot image wanted) (plan fewest m prot image wanted))
 
 -- planning a write of bytes at an address
 abbrev pub planWrite : Shape → (ℕ → Bool) → List ℕ → ℕ → List ℕ → ℕ → ℕ → Answer
 planWrite m prot image address bytes stepRoom dataRoom =
     cond (leb (address + length bytes) (size m))
-      (planTo m prot image (put address bytes image) stepRoom dataRoom) (refused (pastEnd address))
+    (planTo m prot image (put address bytes image) stepRoom dataRoom) (refused (pastEnd address))
