@@ -4,6 +4,7 @@ pub mod Laws
 pub mod Spans
 pub mod Windows
 pub mod Runs
+pub mod Scans
 pub mod PageCosts
 pub mod OneCycle
 pub mod Least

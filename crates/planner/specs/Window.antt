@@ -53,3 +53,9 @@ pub record Shortest (z : ℕ) (old new : List ℕ) (w : ℕ × ℕ) : Type 0 whe
 abbrev pub Windowed : ℕ → List ℕ → List ℕ → Option (ℕ × ℕ) → Type 0
 Windowed z old new None = (i : ℕ) → i < z → getD old i 0 ≡ getD new i 0
 Windowed z old new (Some w) = Shortest z old new w
+
+-- the lowest place below z where they differ
+abbrev pub FirstChange : ℕ → List ℕ → List ℕ → Option ℕ → Type 0
+FirstChange z old new None = (i : ℕ) → i < z → getD old i 0 ≡ getD new i 0
+FirstChange z old new (Some p) =
+    (p < z) × (getD old p 0 ≡ getD new p 0 → ⊥) × ((i : ℕ) → i < p → getD old i 0 ≡ getD new i 0)

@@ -2,10 +2,12 @@
 ghost use mathlib.Core.Path.{_≡_};
 ghost use Prim.Native.Nat.{min};
 ghost use lib.ListN.{length};
-ghost use Rattle.planner.specs.Window.{window, Windowed};
+ghost use Rattle.planner.specs.Window.{window, Windowed, FirstChange};
 
 // The lowest place where the two differ.
-fn first_change(old: &[u8], new: &[u8]) -> Option<usize> {
+fn first_change(old: &[u8], new: &[u8]) -> Option<usize>
+    ensures { λ r. ⌜ FirstChange (min (length (now (old .entry))) (length (now (new .entry)))) (now (old .entry)) (now (new .entry)) r ⌝ }
+{
     let size = old.len().min(new.len());
     for place in 0..size {
         if old[place] != new[place] {
