@@ -1,4 +1,5 @@
 pub mod Blocks
+pub mod Bytes
 pub mod Pages
 pub mod Covers
 pub mod Cycles

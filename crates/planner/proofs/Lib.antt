@@ -15,4 +15,5 @@ pub mod Mixed
 pub mod Reached
 pub mod Stepped
 pub mod Theorems
+pub mod Answered
 pub mod Examples

@@ -38,16 +38,16 @@ module _ (z : ℕ) (old new : List ℕ) where
 
   pub scan-first : (first : ℕ) → first < z → (Same first → ⊥) → ((j : ℕ) → j < first → Same j) → Scan first first first z (first + 1)
   scan-first first h d b =
-    record {
-      first-differs = d;
-      last-differs = d;
-      before = b;
-      since = λ j l k. absurd (omega arith);
-      places = (omega arith, omega arith, omega arith, omega arith);
-      long = (omega arith, omega arith);
-      covers = λ j l n. behind-lt z first j h (omega arith);
-      least = λ a n l k c. absurd (omega arith)
-    }
+      record {
+        first-differs = d;
+        last-differs = d;
+        before = b;
+        since = λ j l k. absurd (omega arith);
+        places = (omega arith, omega arith, omega arith, omega arith);
+        long = (omega arith, omega arith);
+        covers = λ j l n. behind-lt z first j h (omega arith);
+        least = λ a n l k c. absurd (omega arith);
+      }
 
   module _ (first last start len i : ℕ) (s : Scan first last start len i) (inside : i < z) where
     below : (a n : ℕ) → CoversTo (i + 1) a n → CoversTo i a n
@@ -56,17 +56,17 @@ module _ (z : ℕ) (old new : List ℕ) where
     -- no change at place i
     pub scan-same : Same i → Scan first last start len (i + 1)
     scan-same e =
-      let p = s .places in
-      record {
-        first-differs = s .first-differs;
-        last-differs = s .last-differs;
-        before = s .before;
-        since = λ j l k. ⊎-elim (λ q. subst Same (sym q) e) (λ d. s .since j l (omega arith)) (cases-eq j i);
-        places = (p .0, p .1, omega (arith, p), omega arith);
-        long = s .long;
-        covers = λ j l d. ⊎-elim (λ q. absurd (d (subst Same (sym q) e))) (λ n. s .covers j (omega arith) d) (cases-eq j i);
-        least = λ a n l k c. s .least a n l k (below a n c)
-      }
+        let p = s .places in
+        record {
+          first-differs = s .first-differs;
+          last-differs = s .last-differs;
+          before = s .before;
+          since = λ j l k. ⊎-elim (λ q. subst Same (sym q) e) (λ d. s .since j l (omega arith)) (cases-eq j i);
+          places = (p .0, p .1, omega (arith, p), omega arith);
+          long = s .long;
+          covers = λ j l d. ⊎-elim (λ q. absurd (d (subst Same (sym q) e))) (λ n. s .covers j (omega arith) d) (cases-eq j i);
+          least = λ a n l k c. s .least a n l k (below a n c);
+        }
 
     module _ (differs : Same i → ⊥) where
       -- a change below i is no later than the last
@@ -76,7 +76,7 @@ module _ (z : ℕ) (old new : List ℕ) where
       -- a run from behind the last change has to come round to it
       round-to-last : (a n : ℕ) → last < a → CoversTo (i + 1) a n → last + z - a < n
       round-to-last a n l c =
-        let p = s .places in subst (λ y. y < n) (behind-round z a last l) (c last (omega (arith, p)) (s .last-differs))
+          let p = s .places in subst (λ y. y < n) (behind-round z a last l) (c last (omega (arith, p)) (s .last-differs))
 
       -- the run from place i is the shortest so far
       pub scan-better : z - (i - last) + 1 < len → Scan first i i (z - (i - last) + 1) (i + 1)
@@ -90,27 +90,31 @@ module _ (z : ℕ) (old new : List ℕ) where
             places = (omega (arith, p), omega arith, omega arith, omega arith);
             long = (omega (arith, p, s .long), omega (arith, p));
             covers = λ j l d. ⊎-elim (here j) (λ n. there j (omega arith) d) (cases-eq j i);
-            least = λ a n l k c. ⊎-elim (λ u. old-start a n l u c) (λ u. new-start a n u k c) (cases-le a)
+            least = λ a n l k c. ⊎-elim (λ u. old-start a n l u c) (λ u. new-start a n u k c) (cases-le a);
           }
         where
           cases-le : (a : ℕ) → (a ≤ last) ⊎ (last < a)
           cases-le a = ⊎-elim (λ u. inr u) (λ u. inl u) (cases-lt last a)
+
           here : (j : ℕ) → j ≡ i → behind z i j < z - (i - last) + 1
           here j q = subst (λ y. y < z - (i - last) + 1) (sym (behind-from z i j (omega arith))) (omega arith)
+
           there : (j : ℕ) → j < i → (Same j → ⊥) → behind z i j < z - (i - last) + 1
           there j l d =
-            let p = s .places in
-            let k = to-last j l d in subst (λ y. y < z - (i - last) + 1) (sym (behind-round z i j l)) (omega (arith, p))
+              let p = s .places in
+              let k = to-last j l d in subst (λ y. y < z - (i - last) + 1) (sym (behind-round z i j l)) (omega (arith, p))
+
           old-start :
-            (a n : ℕ) → first < a → a ≤ last → CoversTo (i + 1) a n
+              (a n : ℕ) → first < a → a ≤ last → CoversTo (i + 1) a n
               → (z - (i - last) + 1 ≤ n) × (z - (i - last) + 1 ≡ n → i ≤ a)
           old-start a n l u c = let b = s .least a n l u (below a n c) in (omega (arith, b .0), λ q. absurd (omega (arith, b .0)))
+
           new-start :
-            (a n : ℕ) → last < a → a ≤ i → CoversTo (i + 1) a n
+              (a n : ℕ) → last < a → a ≤ i → CoversTo (i + 1) a n
               → (z - (i - last) + 1 ≤ n) × (z - (i - last) + 1 ≡ n → i ≤ a)
           new-start a n u k c =
-            let p = s .places in
-            let b = round-to-last a n u c in (omega (arith, p), λ q. omega (arith, p))
+              let p = s .places in
+              let b = round-to-last a n u c in (omega (arith, p), λ q. omega (arith, p))
 
       -- an earlier one is as short
       pub scan-kept : len ≤ z - (i - last) + 1 → Scan first i start len (i + 1)
@@ -125,18 +129,19 @@ module _ (z : ℕ) (old new : List ℕ) where
             long = s .long;
             covers = λ j l d. ⊎-elim (here j) (λ n. s .covers j (omega arith) d) (cases-eq j i);
             least =
-              λ a n l k c.
-                ⊎-elim (λ u. new-start a n u k c) (λ u. s .least a n l u (below a n c)) (cases-lt last a)
+                λ a n l k c.
+                ⊎-elim (λ u. new-start a n u k c) (λ u. s .least a n l u (below a n c)) (cases-lt last a);
           }
         where
           here : (j : ℕ) → j ≡ i → behind z start j < len
           here j q =
-            let p = s .places in
-            subst (λ y. y < len) (sym (behind-from z start j (omega (arith, p)))) (omega (arith, p, s .long))
+              let p = s .places in
+              subst (λ y. y < len) (sym (behind-from z start j (omega (arith, p)))) (omega (arith, p, s .long))
+
           new-start : (a n : ℕ) → last < a → a ≤ i → CoversTo (i + 1) a n → (len ≤ n) × (len ≡ n → start ≤ a)
           new-start a n u k c =
-            let p = s .places in
-            let b = round-to-last a n u c in (omega (arith, p), λ q. omega (arith, p))
+              let p = s .places in
+              let b = round-to-last a n u c in (omega (arith, p), λ q. omega (arith, p))
 
   -- all places are looked at
   module _ (first last start len i : ℕ) (s : Scan first last start len i) (end : z ≤ i) where
@@ -156,7 +161,7 @@ module _ (z : ℕ) (old new : List ℕ) where
     -- where a run may start
     sides : (a : ℕ) → (a ≤ first) ⊎ (((first < a) × (a ≤ last)) ⊎ (last < a))
     sides a =
-      ⊎-elim (λ u. ⊎-elim (λ v. inr (inr v)) (λ v. inr (inl (u, v))) (cases-lt last a)) (λ u. inl u) (cases-lt first a)
+        ⊎-elim (λ u. ⊎-elim (λ v. inr (inr v)) (λ v. inr (inl (u, v))) (cases-lt last a)) (λ u. inl u) (cases-lt first a)
 
     pub scan-straight : last - first + 1 ≤ len → Shortest z old new (first, last - first + 1)
     scan-straight r =
@@ -167,17 +172,18 @@ module _ (z : ℕ) (old new : List ℕ) where
           fits = omega (arith, p);
           covers = covered;
           shortest = λ a n l c. shortest′ a n l c (sides a);
-          lowest = λ a l c. ⊎-elim (λ u. let k = early a _ (omega arith) c in absurd (omega (arith, p))) (λ u. u) (cases-lt a first)
+          lowest = λ a l c. ⊎-elim (λ u. let k = early a _ (omega arith) c in absurd (omega (arith, p))) (λ u. u) (cases-lt a first);
         }
       where
         covered : Covers z old new first (last - first + 1)
         covered j l d =
-          let p = s .places in
-          let after : first ≤ j = ⊎-elim (λ u. absurd (d (s .before j u))) (λ u. u) (cases-lt j first) in
-          let upto : j ≤ last = ⊎-elim (λ u. absurd (d (s .since j u (omega arith)))) (λ u. u) (cases-lt last j) in
-          subst (λ y. y < last - first + 1) (sym (behind-from z first j after)) (omega (arith, p))
+            let p = s .places in
+            let after : first ≤ j = ⊎-elim (λ u. absurd (d (s .before j u))) (λ u. u) (cases-lt j first) in
+            let upto : j ≤ last = ⊎-elim (λ u. absurd (d (s .since j u (omega arith)))) (λ u. u) (cases-lt last j) in
+            subst (λ y. y < last - first + 1) (sym (behind-from z first j after)) (omega (arith, p))
+
         shortest′ :
-          (a n : ℕ) → a < z → Covers z old new a n → (a ≤ first) ⊎ (((first < a) × (a ≤ last)) ⊎ (last < a)) → last - first + 1 ≤ n
+            (a n : ℕ) → a < z → Covers z old new a n → (a ≤ first) ⊎ (((first < a) × (a ≤ last)) ⊎ (last < a)) → last - first + 1 ≤ n
         shortest′ a n l c (inl u) = let p = s .places in omega (arith, p, early a n u c)
         shortest′ a n l c (inr (inl u)) = omega (arith, between a n (u .0) (u .1) c .0)
         shortest′ a n l c (inr (inr u)) = let p = s .places in omega (arith, p, late a n u c)
@@ -191,16 +197,17 @@ module _ (z : ℕ) (old new : List ℕ) where
           fits = s .long .0;
           covers = λ j l d. s .covers j (omega arith) d;
           shortest = λ a n l c. shortest′ a n l c (sides a);
-          lowest = λ a l c. lowest′ a l c (sides a)
+          lowest = λ a l c. lowest′ a l c (sides a);
         }
       where
         shortest′ :
-          (a n : ℕ) → a < z → Covers z old new a n → (a ≤ first) ⊎ (((first < a) × (a ≤ last)) ⊎ (last < a)) → len ≤ n
+            (a n : ℕ) → a < z → Covers z old new a n → (a ≤ first) ⊎ (((first < a) × (a ≤ last)) ⊎ (last < a)) → len ≤ n
         shortest′ a n l c (inl u) = let p = s .places in omega (arith, p, early a n u c)
         shortest′ a n l c (inr (inl u)) = between a n (u .0) (u .1) c .0
         shortest′ a n l c (inr (inr u)) = let p = s .places in omega (arith, p, late a n u c)
+
         lowest′ :
-          (a : ℕ) → a < z → Covers z old new a len → (a ≤ first) ⊎ (((first < a) × (a ≤ last)) ⊎ (last < a)) → start ≤ a
+            (a : ℕ) → a < z → Covers z old new a len → (a ≤ first) ⊎ (((first < a) × (a ≤ last)) ⊎ (last < a)) → start ≤ a
         lowest′ a l c (inl u) = let p = s .places in absurd (omega (arith, p, early a len u c))
         lowest′ a l c (inr (inl u)) = between a len (u .0) (u .1) c .1 refl
         lowest′ a l c (inr (inr u)) = let p = s .places in omega (arith, p, late a len u c)

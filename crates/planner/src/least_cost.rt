@@ -1,6 +1,6 @@
 // What is shown of the plan: each function's contract is one theorem, and the function does nothing else.
 // `C` is what costs are counted in: the theorems hold of every cost that keeps the laws.
-ghost use Rattle.planner.specs.Theorems.{PlanIsLeast, PlanReaches, NoneLeads, LowestFound, StepsAreCycles, FewestIsLawful};
+ghost use Rattle.planner.specs.Theorems.{PlanIsLeast, PlanReaches, NoneLeads, LowestFound, StepsAreCycles, FewestIsLawful, WritesAnswered};
 ghost use Rattle.planner.specs.Worked.{WorkedWrites};
 
 // No accepted list of cycles that leads to the wanted image costs less than the plan.
@@ -27,6 +27,11 @@ pub fn stepped()
 // Cycles first and then data bytes is a cost that keeps the laws.
 pub fn lawful()
     ensures { λ _. ⌜ FewestIsLawful ⌝ }
+{}
+
+// Planning a write answers what holds: a refusal whose cause is so, or steps and data that write the bytes at the least cost.
+pub fn answered()
+    ensures { λ _. ⌜ WritesAnswered ⌝ }
 {}
 
 // Eight worked writes on the bench's memory.
