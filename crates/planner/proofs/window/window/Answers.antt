@@ -22,10 +22,10 @@ loop-place-again c =
     elim (c .if-old-place .came) [
       | need.then-old-place·then-round-length w ↦
           rw (w .last-is, w .start-is, w .length-is)
-          (scan-better _ _ _ _ _ _ _ _ (c .loop-place .inv) (omega arith) (w .if-old-place .taken) (w .if-round-length .taken))
+          (scan-better _ _ _ _ _ _ _ _ (c .loop-place .inv) (omega arith) (w .if-old-place .taken) (omega (arith, w .if-round-length .taken)))
       | need.then-old-place·else-round-length w ↦
           rw (w .last-is, w .start-is, w .length-is)
-          (scan-kept _ _ _ _ _ _ _ _ (c .loop-place .inv) (omega arith) (w .if-old-place .taken) (w .if-round-length .left))
+          (scan-kept _ _ _ _ _ _ _ _ (c .loop-place .inv) (omega arith) (w .if-old-place .taken) (omega (arith, w .if-round-length .left)))
       | need.else-old-place w ↦
           rw (w .last-is, w .start-is, w .length-is)
           (scan-same _ _ _ _ _ _ _ _ (c .loop-place .inv) (omega arith) (w .if-old-place .left))
@@ -37,7 +37,7 @@ returns-then-straight-length c =
     let run =
     subst (λ z. Shortest z (c .args .old .now) (c .args .new .now) (c .in-Some .first, c .loop-place .last - c .in-Some .first + 1))
     (c .min-size .ensures)
-    (scan-straight _ _ _ _ _ _ _ _ (c .loop-place .inv) (c .loop-place-test .left) (c .if-straight-length .taken))
+    (scan-straight _ _ _ _ _ _ _ _ (c .loop-place .inv) (c .loop-place-test .left) (omega (arith, c .if-straight-length .taken)))
     in record { value = window-is _ _ _ _ refl run; words = run }
 
 -- src/window.rt:22:1
@@ -46,5 +46,5 @@ returns-else-straight-length c =
     let run =
     subst (λ z. Shortest z (c .args .old .now) (c .args .new .now) (c .loop-place .start, c .loop-place .length))
     (c .min-size .ensures)
-    (scan-round _ _ _ _ _ _ _ _ (c .loop-place .inv) (c .loop-place-test .left) (c .if-straight-length .left))
+    (scan-round _ _ _ _ _ _ _ _ (c .loop-place .inv) (c .loop-place-test .left) (omega (arith, c .if-straight-length .left)))
     in record { value = window-is _ _ _ _ refl run; words = run }
