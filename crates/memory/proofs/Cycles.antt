@@ -1,7 +1,7 @@
 -- What an accepted cycle leaves: lengths, the pages it writes or erases, and all else as it was.
 use mathlib.Core.Path.{_≡_, refl, sym, ap, subst, _∙_}
-use mathlib.Core.Bool.{Bool, true, false, not, _&&_}
-use mathlib.Core.List.{List, [], _∷_}
+use mathlib.Core.Bool.{Bool, true, false}
+use mathlib.Core.List.{List}
 use mathlib.Core.Logic.{_⊎_, inl, inr, ⊎-elim}
 use Prim.Native.Nat.{ℕ, zero, suc, _+_, _*_, _/_, _%_, _≤_, _<_}
 use native.Mathlib.Omega.{arith}
@@ -10,10 +10,10 @@ use lib.Bits.{bitAnd}
 use lib.ListN.{length, take, drop, replicate, length-replicate}
 use lib.Seq.{take-all}
 use Rattle.std.proofs.shelf.Tests.{and-parts, both-ways, cases-eq, ltb-true, leb-true, not-true}
-use Rattle.memory.specs.Shape.{Shape, size, sectorAt}
+use Rattle.memory.specs.Shape.{Shape, sectorAt}
 use Rattle.memory.specs.Protection.{free}
 use Rattle.memory.specs.Page.{block, put, page, merged, cover, written, blank}
-use Rattle.memory.specs.Cycle.{Cycle, program, alter, preset, sectorErase, bulkErase, replacing, sectorStart, effect, writable, fitsPage, accepts}
+use Rattle.memory.specs.Cycle.{Cycle, program, alter, preset, sectorErase, bulkErase, replacing, effect, writable, fitsPage, accepts}
 use Rattle.memory.proofs.Blocks.{length-put, block-put-out, block-put-in, block-replicate, apart}
 use Rattle.memory.proofs.Covers.{length-merged}
 use Rattle.memory.proofs.Pages.{Real, Whole, page-fits, length-page, sector-fits, in-sector, out-sector, sectorOf}

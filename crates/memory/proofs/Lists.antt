@@ -1,11 +1,11 @@
 -- Lists of cycles: one after another, broken off, and what none of them changes.
-use mathlib.Core.Path.{_≡_, refl, sym, ap, subst, _∙_}
+use mathlib.Core.Path.{_≡_, sym, ap, subst, _∙_}
 use mathlib.Core.Bool.{Bool, true}
 use mathlib.Core.List.{List, [], _∷_, _++_}
 use Prim.Native.Nat.{ℕ, _<_}
 use Rattle.std.proofs.shelf.Tests.{and-parts, and-from}
 use Rattle.memory.specs.Shape.{Shape}
-use Rattle.memory.specs.Cycle.{Cycle, effect, accepts, accepted, leads, Goes}
+use Rattle.memory.specs.Cycle.{Cycle, effect, leads, Goes}
 use Rattle.memory.proofs.Pages.{Real, Whole, sectorOf}
 use Rattle.memory.proofs.Cycles.{length-effect, guarded}
 

@@ -2,23 +2,21 @@
 use mathlib.Core.Path.{_≡_, refl, sym, ap, subst, _∙_}
 use mathlib.Core.Bool.{Bool, true, false, cond}
 use mathlib.Core.List.{List}
-use Prim.Native.Nat.{ℕ, _+_, _≤_, _<_}
-use native.Mathlib.Omega.{arith}
+use Prim.Native.Nat.{ℕ, _+_, _≤_}
 use lib.Dec.{leb}
-use lib.ListN.{length, getD}
+use lib.ListN.{length}
 use Rattle.std.specs.declared.option.Option.{Option}
 use Rattle.std.specs.declared.option.Option.the-variants.{None, Some}
 use Rattle.std.proofs.shelf.Tests.{leb-true, leb-false}
 use Rattle.memory.specs.Shape.{Shape, size, Imaged}
 use Rattle.memory.specs.Page.{put}
-use Rattle.memory.specs.Cycle.{Cycle, Goes}
+use Rattle.memory.specs.Cycle.{Cycle}
 use Rattle.memory.proofs.Bytes.{imaged-put}
-use Rattle.planner.specs.Barred.{Barred, LowestIs, lowestBarred}
-use Rattle.planner.specs.Cost.{spent}
+use Rattle.planner.specs.Barred.{LowestIs, lowestBarred}
 use Rattle.planner.specs.Fewest.{fewest}
 use Rattle.planner.specs.Plan.{leastCost, plan}
 use Rattle.planner.specs.Steps.{stepsOf, dataOf, cyclesOf}
-use Rattle.planner.specs.Writes.{Answer, refused, planned, pastEnd, stepsShort, dataShort, unlessBarred, unlessShort, planTo, planWrite}
+use Rattle.planner.specs.Writes.{Answer, refused, planned, pastEnd, stepsShort, dataShort, unlessBarred, unlessShort, planTo}
 use Rattle.planner.specs.Theorems.{LeastBy, Says, outside, barred, few-steps, few-data, written, WritesAnswered}
 use Rattle.planner.proofs.Laws.{fewest-lawful}
 use Rattle.planner.proofs.Least.{least-holds}

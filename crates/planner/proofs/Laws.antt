@@ -5,7 +5,7 @@ use mathlib.Core.Logic.{_⊎_, inl, inr, ⊎-elim}
 use Prim.Native.Nat.{ℕ, _+_, _≤_, _<_}
 use native.Mathlib.Omega.{arith}
 use Rattle.std.proofs.shelf.Tests.{cases-bool, leb-true, leb-false, or-parts, or-cases, and-parts, and-cases, ltb-true, ltb-false, eqb-true, eqb-false}
-use Rattle.planner.specs.Cost.{Cost, Lawful}
+use Rattle.planner.specs.Cost.{Lawful}
 use Rattle.planner.specs.Fewest.{fewest}
 
 abbrev lex : ℕ × ℕ → ℕ × ℕ → Bool

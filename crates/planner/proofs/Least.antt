@@ -1,7 +1,7 @@
 -- Every accepted list costs at least what its images differ by.
-use mathlib.Core.Path.{_≡_, sym, subst, _∙_}
+use mathlib.Core.Path.{_≡_, sym, subst}
 use mathlib.Core.Bool.{Bool, true}
-use mathlib.Core.List.{List, [], _∷_, _++_}
+use mathlib.Core.List.{List, [], _∷_}
 use mathlib.Core.Logic.{⊎-elim}
 use Prim.Native.Nat.{ℕ}
 use Rattle.std.proofs.shelf.Tests.{and-parts}
@@ -9,8 +9,7 @@ use Rattle.memory.specs.Shape.{Shape}
 use Rattle.memory.specs.Cycle.{Cycle, effect, accepted, leads, Goes}
 use Rattle.memory.proofs.Pages.{Real, Whole, empty-or-real}
 use Rattle.memory.proofs.Cycles.{length-effect}
-use Rattle.memory.proofs.Lists.{goes-rest}
-use Rattle.planner.specs.Cost.{Cost, Lawful, price, spent}
+use Rattle.planner.specs.Cost.{Cost, Lawful, spent}
 use Rattle.planner.specs.Plan.{leastCost}
 use Rattle.planner.proofs.Sums.{Le, plus-none, le-plus}
 use Rattle.planner.proofs.OneCycle.{nothing-left, empty-left, one-cycle}

@@ -9,7 +9,7 @@ use Rattle.std.specs.declared.option.Option.the-variants.{None, Some}
 use Rattle.memory.specs.Shape.{Shape}
 use Rattle.memory.specs.Protection.{free}
 use Rattle.memory.specs.Page.{page}
-use Rattle.memory.specs.Cycle.{Cycle, program, alter, preset, sectorErase, bulkErase}
+use Rattle.memory.specs.Cycle.{Cycle, program, alter, preset, sectorErase}
 use Rattle.planner.specs.Cost.{Cost, Lawful, sumTo, price, spent}
 use Rattle.planner.specs.Window.{window}
 use Rattle.planner.specs.Sectors.{overSector, eraseCost, sectorCost, sectorsCost, bulkCost}
@@ -45,10 +45,7 @@ module _ {C : Type 0} {K : Cost C} (m : Shape) (L : Lawful K (m .bytes)) (prot :
   presets-spent k = spent-list L (m .pages) _ _ (λ j. spent-sending L preset (λ a sent. refl) _ _ _)
 
   keep-spent : (q : ℕ) → spent K (keepCycles (m .bytes) image wanted q) ≡ keepPage K (m .bytes) image wanted q
-  keep-spent q =
-      let b = lowers (page (m .bytes) q image) (page (m .bytes) q wanted) in
-      spent-sending L (cond b program alter) (keep-price K b) q (page (m .bytes) q wanted)
-      (window (m .bytes) (page (m .bytes) q image) (page (m .bytes) q wanted))
+  keep-spent q = spent-sending L (cond _ program alter) (keep-price K _) q (page (m .bytes) q wanted) _
 
   sector-spent :
       (k : ℕ)

@@ -1,8 +1,8 @@
 -- Where no protected byte would have to change, the plan is accepted and leads to the wanted image: page by page, sector by sector.
 use mathlib.Core.Path.{_≡_, refl, sym, ap, ap₂, subst, subst₂, _∙_}
-use mathlib.Core.Bool.{Bool, true, false, cond, not, _&&_}
-use mathlib.Core.List.{List, [], _∷_, _++_}
-use mathlib.Core.Logic.{_⊎_, inl, inr, ⊎-elim}
+use mathlib.Core.Bool.{Bool, true, false, cond, _&&_}
+use mathlib.Core.List.{List, _∷_, _++_}
+use mathlib.Core.Logic.{⊎-elim}
 use Prim.Native.Nat.{ℕ, zero, suc, _+_, _*_, _/_, _%_, _≤_, _<_}
 use native.Mathlib.Omega.{arith}
 use native.Mathlib.Nat.{add-zero, add-suc, add-mul, suc-mul, zero-mul, mul-pos, mul-div-cancel, mod-eq-of-lt}
@@ -14,17 +14,17 @@ use Rattle.std.specs.declared.option.Option.the-variants.{None, Some}
 use Rattle.std.proofs.shelf.Lists.{drop-all, append-nil}
 use Rattle.std.proofs.shelf.Tests.{cases-bool, cases-eq, and-from, lt-ltb, le-leb, not-from-false, both-ways}
 use Rattle.std.proofs.shelf.Bits.{div-mul-add, mod-mul-add}
-use Rattle.memory.specs.Shape.{Shape, size, sectorAt}
+use Rattle.memory.specs.Shape.{Shape, size}
 use Rattle.memory.specs.Protection.{free}
 use Rattle.memory.specs.Page.{put, page, merged, cover, written, blank}
-use Rattle.memory.specs.Cycle.{Cycle, program, alter, preset, sectorErase, bulkErase, replacing, effect, writable, fitsPage, accepts, Goes}
+use Rattle.memory.specs.Cycle.{Cycle, program, alter, preset, sectorErase, replacing, effect, writable, fitsPage, accepts, Goes}
 use Rattle.memory.proofs.Blocks.{getD-block, put-same, block-replicate}
 use Rattle.memory.proofs.Pages.{Real, Whole, number-lt, page-fits, length-page, sector-fits}
 use Rattle.memory.proofs.Cycles.{free-at, blank-replicate, erasedAt, erased-fits, length-erased, page-erased}
 use Rattle.memory.proofs.Lists.{goes-join}
 use Rattle.planner.specs.Barred.{Barred}
 use Rattle.planner.specs.Cost.{Cost, Lawful}
-use Rattle.planner.specs.Window.{window, Shortest, Windowed}
+use Rattle.planner.specs.Window.{window, Windowed}
 use Rattle.planner.specs.Sectors.{overSector, eraseCost, sectorsCost, bulkCost}
 use Rattle.planner.specs.Plan.{windowCost, keepPage, erasedPage, bytesFrom, lowers, sending, keepCycles, presets, listTo, pagesOf, sectorPlan, bulkPlan, plan}
 use Rattle.planner.proofs.Sums.{Le, sum-none}

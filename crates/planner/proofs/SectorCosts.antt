@@ -7,7 +7,7 @@ use Rattle.std.proofs.shelf.Bits.{div-mul-add, mod-mul-add}
 use Rattle.std.proofs.shelf.Tests.{cond-both}
 use Rattle.memory.specs.Shape.{Shape}
 use Rattle.planner.specs.Cost.{Cost, Lawful}
-use Rattle.planner.specs.Sectors.{overSector, eraseCost, sectorCost, sectorsCost, bulkCost, chosenCost}
+use Rattle.planner.specs.Sectors.{overSector, eraseCost, sectorCost, sectorsCost, chosenCost}
 use Rattle.planner.proofs.Sums.{Le, le-plus, sum-mono, sum-step, sum-none, lesser-l, lesser-r, lesser-from, lesser-step, lesser-mono}
 
 module _ {C : Type 0} {K : Cost C} {z : ℕ} (L : Lawful K z) (m : Shape) (fr : Bool) (w w′ e : ℕ → C) where

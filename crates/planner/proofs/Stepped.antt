@@ -1,17 +1,15 @@
 -- Steps with their data are the cycles again, and count as the cost does.
-use mathlib.Core.Path.{_≡_, refl, sym, ap, ap₂, subst, _∙_}
-use mathlib.Core.List.{List, [], _∷_, _++_, map, append-assoc}
-use Prim.Native.Nat.{ℕ, _+_, suc}
-use native.Mathlib.Omega.{arith}
-use native.Mathlib.Nat.{add-zero}
+use mathlib.Core.Path.{_≡_, refl, sym, ap, ap₂, _∙_}
+use mathlib.Core.List.{List, [], _∷_, _++_, append-assoc}
+use Prim.Native.Nat.{ℕ, _+_}
 use native.Mathlib.Numerals.{one-add}
-use lib.ListN.{length, take, drop, length-append}
+use lib.ListN.{length, take, length-append}
 use lib.Seq.{take-at, drop-at}
 use Rattle.memory.specs.Page.{block}
 use Rattle.memory.specs.Cycle.{Cycle, program, alter, preset, sectorErase, bulkErase, cycleOf}
 use Rattle.planner.specs.Cost.{price, spent}
 use Rattle.planner.specs.Fewest.{fewest}
-use Rattle.planner.specs.Steps.{kindOf, addressOf, sentBy, stepsFrom, stepsOf, dataOf, stepCycle, cyclesOf}
+use Rattle.planner.specs.Steps.{kindOf, addressOf, sentBy, stepsFrom, dataOf, cyclesOf}
 use Rattle.planner.specs.Theorems.{StepsAreCycles}
 
 cycle-again : (c : Cycle) → cycleOf (kindOf c) (addressOf c) (sentBy c) ≡ c

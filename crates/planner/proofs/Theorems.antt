@@ -1,15 +1,12 @@
 -- The theorems, for every shape: a memory that holds nothing has one image, and its plan is empty.
-use mathlib.Core.Path.{_≡_, refl, sym, ap, subst, _∙_}
-use mathlib.Core.Bool.{Bool, true}
-use mathlib.Core.List.{List, []}
+use mathlib.Core.Path.{_≡_, refl, sym, subst, _∙_}
+use mathlib.Core.Bool.{true}
 use mathlib.Core.Logic.{⊎-elim}
-use Prim.Native.Nat.{ℕ}
 use Rattle.std.proofs.shelf.Lists.{nil-from-length}
-use Rattle.memory.specs.Shape.{Shape, size, Imaged}
+use Rattle.memory.specs.Shape.{size}
 use Rattle.memory.specs.Cycle.{Goes}
 use Rattle.memory.proofs.Pages.{Real, empty-or-real}
-use Rattle.planner.specs.Barred.{Barred}
-use Rattle.planner.specs.Cost.{Cost, Lawful, spent}
+use Rattle.planner.specs.Cost.{spent}
 use Rattle.planner.specs.Plan.{plan}
 use Rattle.planner.specs.Theorems.{PlanIsLeast, PlanReaches}
 use Rattle.planner.proofs.Least.{least-holds}

@@ -1,7 +1,7 @@
 -- Planning to the image as it is plans nothing.
 use mathlib.Core.Path.{_≡_, refl, sym, ap, ap₂, subst, _∙_}
 use mathlib.Core.Bool.{Bool, true, false, cond}
-use mathlib.Core.List.{List, [], _∷_, _++_}
+use mathlib.Core.List.{List, [], _++_}
 use Prim.Native.Nat.{ℕ, zero, suc, _+_, _*_, _<_}
 use native.Mathlib.Omega.{arith}
 use Rattle.std.proofs.shelf.Tests.{cond-true}
@@ -12,7 +12,7 @@ use Rattle.memory.specs.Cycle.{Cycle, program, alter}
 use Rattle.memory.proofs.Pages.{Whole, number-lt, length-page}
 use Rattle.planner.specs.Cost.{Cost, Lawful}
 use Rattle.planner.specs.Sectors.{overSector, eraseCost, sectorsCost, bulkCost}
-use Rattle.planner.specs.Plan.{windowCost, keepPage, erasedPage, lowers, sending, keepCycles, presets, listTo, pagesOf, sectorPlan, bulkPlan, plan}
+use Rattle.planner.specs.Plan.{windowCost, keepPage, erasedPage, lowers, sending, keepCycles, listTo, sectorPlan, bulkPlan, plan}
 use Rattle.planner.proofs.Sums.{Le, sum-none}
 use Rattle.planner.proofs.SectorCosts.{sectors-none}
 use Rattle.planner.proofs.Windows.{window-same}

@@ -1,18 +1,17 @@
 -- Protected bytes: the lowest that would have to change, and that no accepted list changes one.
-use mathlib.Core.Path.{_≡_, refl, sym, ap, subst, _∙_}
-use mathlib.Core.Bool.{Bool, true, false, cond, not, _&&_}
+use mathlib.Core.Path.{_≡_, sym, subst, _∙_}
+use mathlib.Core.Bool.{Bool, true, false, not, _&&_}
 use mathlib.Core.List.{List, [], _∷_}
-use mathlib.Core.Logic.{_⊎_, inl, inr, ⊎-elim}
-use Prim.Native.Nat.{ℕ, zero, suc, _+_, _≤_, _<_}
+use mathlib.Core.Logic.{⊎-elim}
+use Prim.Native.Nat.{ℕ, zero, suc, _+_, _<_}
 use native.Mathlib.Omega.{arith}
 use native.Mathlib.Nat.{add-zero, div-lt-iff-lt-mul}
 use lib.Dec.{eqb}
 use lib.ListN.{length, getD}
 use Rattle.std.specs.declared.option.Option.{Option}
 use Rattle.std.specs.declared.option.Option.the-variants.{None, Some}
-use Rattle.std.proofs.shelf.Tests.{and-parts, and-from, and-cases, both-ways, cases-eq, cond-both, eq-eqb, eqb-true, eqb-false, ne-eqb, not-true, not-false, not-from-false}
-use Rattle.memory.specs.Shape.{Shape, size, sectorAt, Imaged}
-use Rattle.memory.specs.Cycle.{Cycle, Goes}
+use Rattle.std.proofs.shelf.Tests.{and-parts, and-cases, both-ways, cond-both, eqb-true, eqb-false, not-true, not-false}
+use Rattle.memory.specs.Shape.{Shape, sectorAt}
 use Rattle.memory.proofs.Pages.{Real, empty-or-real, same-byte}
 use Rattle.memory.proofs.Lists.{sector-stays}
 use Rattle.planner.specs.Barred.{Barred, barredFrom, lowestBarred, LowestIs}

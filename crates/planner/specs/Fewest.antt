@@ -1,6 +1,6 @@
 -- The cost that the planner goes by: cycles first, then data bytes.
 use mathlib.Core.Bool.{_&&_, _||_}
-use Prim.Native.Nat.{ℕ, _+_, _-_, _^_, min}
+use Prim.Native.Nat.{ℕ, _+_, min}
 use lib.Dec.{eqb, leb, ltb}
 use Rattle.planner.specs.Cost.{Cost}
 

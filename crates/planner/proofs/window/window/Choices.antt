@@ -1,4 +1,3 @@
-use Prim.Native.Nat.{min}
 use lib.ListN.{length}
 use Rattle.planner.proofs.Scans.{Scan}
 use Rattle.planner.proofs.window.window.Given as given
