@@ -1,5 +1,11 @@
+pub mod Blocks
+pub mod Bounds
+pub mod Pages
+pub mod Covers
+pub mod Cycles
+pub mod Lists
 pub mod Loops
-pub mod Sizes
 pub mod Models
 pub mod Off
 pub mod Protected
+pub mod Sizes

@@ -96,11 +96,6 @@ merged-none f bytes sent i h =
     let e : merged f (drop i bytes) (drop i sent) ≡ [] = ap (λ x. merged f x (drop i sent)) d in
     let n = append-nil bytes in cc
 
-pub length-merged : (f : ℕ → ℕ → ℕ) (old : List ℕ) (sent : List (Option ℕ)) → length (merged f old sent) ≡ length old
-length-merged f [] sent = refl
-length-merged f (o ∷ os) [] = refl
-length-merged f (o ∷ os) (s ∷ ss) = ap suc (length-merged f os ss)
-
 -- a part of a list that was written anew, as the checker has it
 pub put-mid : (at n : ℕ) (xs image : List ℕ) → length xs ≡ n → take at image ++ (xs ++ drop n (drop at image)) ≡ put at xs image
 put-mid at n xs image e =

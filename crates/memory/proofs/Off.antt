@@ -14,11 +14,9 @@ use Rattle.memory.specs.Shape.{Shape, size, sectorAt}
 use Rattle.memory.specs.Page.{put, page, block, merged, cover, written}
 use Rattle.memory.specs.Cycle.{Cycle, program, alter, preset, sectorErase, bulkErase, effect, sectorStart, replacing}
 use Rattle.memory.specs.Image.{reaches}
-use Rattle.memory.proofs.Loops.{length-merged}
+use Rattle.memory.proofs.Blocks.{length-put}
+use Rattle.memory.proofs.Covers.{length-merged}
 use lib.Bits.{bitAnd}
-
-pub length-put : (at : ℕ) (xs image : List ℕ) → at + length xs ≤ length image → length (put at xs image) ≡ length image
-length-put at xs image h = simp (length-append, length-take, length-drop) (omega arith)
 
 -- a place away from what was put
 pub getD-put-off : (at : ℕ) (xs image : List ℕ) (i : ℕ) → at + length xs ≤ length image → (i < at) ⊎ (at + length xs ≤ i)
@@ -97,11 +95,6 @@ module _ (m : Shape) (some-bytes : 0 < m .bytes) (some-pages : 0 < m .pages) (im
       getD-put-off (a / m .bytes * m .bytes) _ image i (omega arith)
       (⊎-elim (λ u. inl u) (λ u. inr (omega arith)) (around (m .bytes) i (a / m .bytes) some-bytes d))
 
-  pub length-written : (f : ℕ → ℕ → ℕ) (a : ℕ) (sent : List ℕ) → a < length image → length (written f (m .bytes) a sent image) ≡ length image
-  length-written f a sent h =
-      let l = page-long f a sent h in
-      let e = page-end a h in length-put (a / m .bytes * m .bytes) _ image (omega arith)
-
   -- a sector erase leaves every other sector
   pub erased-off : (a i : ℕ) → a < length image → (sectorAt m i ≡ sectorAt m a → ⊥) → getD (effect m (sectorErase a) image) i 0 ≡ getD image i 0
   erased-off a i h d =
@@ -109,16 +102,3 @@ module _ (m : Shape) (some-bytes : 0 < m .bytes) (some-pages : 0 < m .pages) (im
       let e = sector-end a h in
       getD-put-off (sectorStart m a) (replicate (m .pages * m .bytes) 255) image i (omega arith)
       (⊎-elim (λ u. inl u) (λ u. inr (omega arith)) (around-sector (m .bytes) (m .pages) i (sectorAt m a) some-bytes some-pages d))
-
-  pub length-erased : (a : ℕ) → a < length image → length (effect m (sectorErase a) image) ≡ length image
-  length-erased a h =
-      let l = length-replicate {A = ℕ} (m .pages * m .bytes) 255 in
-      let e = sector-end a h in length-put (sectorStart m a) (replicate (m .pages * m .bytes) 255) image (omega arith)
-
-  -- no cycle inside alters the length
-  pub length-effect : (y : Cycle) → reaches (length image) y ≡ true → length (effect m y image) ≡ length image
-  length-effect (program a sent) r = length-written bitAnd a sent (ltb-true _ _ r)
-  length-effect (alter a sent) r = length-written replacing a sent (ltb-true _ _ r)
-  length-effect (preset a sent) r = length-written bitAnd a sent (ltb-true _ _ r)
-  length-effect (sectorErase a) r = length-erased a (ltb-true _ _ r)
-  length-effect bulkErase r = length-replicate (length image) 255

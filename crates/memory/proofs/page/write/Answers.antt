@@ -4,7 +4,8 @@ use native.Mathlib.Omega.{arith}
 use lib.ListN.{length, take, drop, length-take, length-drop}
 use Rattle.memory.specs.Image.{rule}
 use Rattle.memory.specs.Page.{page, cover, merged, put}
-use Rattle.memory.proofs.Loops.{put-mid, length-merged}
+use Rattle.memory.proofs.Covers.{length-merged}
+use Rattle.memory.proofs.Loops.{put-mid}
 use Rattle.memory.proofs.page.write.Needs as need
 
 pub returns : need.returns
