@@ -11,9 +11,8 @@ use Rattle.memory.specs.Protection.{free}
 use Rattle.memory.specs.Page.{page}
 use Rattle.memory.specs.Cycle.{Cycle, program, alter, preset, sectorErase}
 use Rattle.planner.specs.Cost.{Cost, Lawful, sumTo, price, spent}
-use Rattle.planner.specs.Window.{window}
 use Rattle.planner.specs.Sectors.{overSector, eraseCost, sectorCost, sectorsCost, bulkCost}
-use Rattle.planner.specs.Plan.{windowCost, keepPage, erasedPage, leastCost, lowers, sending, keepCycles, presets, listTo, pagesOf, sectorPlan, bulkPlan, plan}
+use Rattle.planner.specs.Plan.{windowCost, keepPage, erasedPage, leastCost, sending, keepCycles, presets, listTo, pagesOf, sectorPlan, bulkPlan, plan}
 use Rattle.planner.proofs.Sums.{plus-none}
 use Rattle.planner.proofs.Runs.{length-bytesFrom}
 
@@ -45,7 +44,7 @@ module _ {C : Type 0} {K : Cost C} (m : Shape) (L : Lawful K (m .bytes)) (prot :
   presets-spent k = spent-list L (m .pages) _ _ (λ j. spent-sending L preset (λ a sent. refl) _ _ _)
 
   keep-spent : (q : ℕ) → spent K (keepCycles (m .bytes) image wanted q) ≡ keepPage K (m .bytes) image wanted q
-  keep-spent q = spent-sending L (cond _ program alter) (keep-price K _) q (page (m .bytes) q wanted) _
+  keep-spent q = spent-sending L (cond _ program alter) (keep-price K _) q _ _
 
   sector-spent :
       (k : ℕ)
