@@ -1,3 +1,4 @@
 pub mod Loops
 pub mod Sizes
 pub mod Models
+pub mod Rolled
