@@ -8,4 +8,5 @@ pub mod Loops
 pub mod Models
 pub mod Off
 pub mod Protected
+pub mod Rolled
 pub mod Sizes

@@ -1,0 +1,4 @@
+pub mod Guards
+pub mod Accepting
+pub mod Refusals
+pub mod Playing
