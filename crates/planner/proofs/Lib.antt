@@ -17,3 +17,5 @@ pub mod Stepped
 pub mod Theorems
 pub mod Answered
 pub mod Examples
+pub mod Waiting
+pub mod Sendable

@@ -8,3 +8,7 @@ pub mod Barred
 pub mod Writes
 pub mod Worked
 pub mod Theorems
+pub mod Waits
+pub mod RunRows
+pub mod Sending
+pub mod Sent

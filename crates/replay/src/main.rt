@@ -16,12 +16,20 @@ use std::io::Write;
 const MOST: u64 = 65536;
 
 const CAPACITY: u8 = 0x0B;
+
 const BYTES: usize = 2048;
+
 const STATUS: u8 = 0x80;
+
 const BUSY: usize = 2;
 
 // Plays the frames up to the first malformed line, and says where that is.
-fn replay(heap: Global, text: &[u8], chip: &mut BenchChip, out: &mut String) -> Result<(), AllocError> {
+fn replay(
+    heap: Global,
+    text: &[u8],
+    chip: &mut BenchChip,
+    out: &mut String,
+) -> Result<(), AllocError> {
     let mut reader = Reader::new(text);
     // a line has a byte at least
     for _ in 0..text.len() {

@@ -1,7 +1,24 @@
 // Bytes back as text.
 use std::alloc::AllocError;
 
-const DIGITS: [char; 16] = ['0', '1', '2', '3', '4', '5', '6', '7', '8', '9', 'A', 'B', 'C', 'D', 'E', 'F'];
+const DIGITS: [char; 16] = [
+    '0',
+    '1',
+    '2',
+    '3',
+    '4',
+    '5',
+    '6',
+    '7',
+    '8',
+    '9',
+    'A',
+    'B',
+    'C',
+    'D',
+    'E',
+    'F',
+];
 
 // Uppercase pairs with single spaces, or `-` for none.
 pub fn show(bytes: &[u8], out: &mut String) -> Result<(), AllocError> {
