@@ -19,3 +19,4 @@ pub mod Answered
 pub mod Examples
 pub mod Waiting
 pub mod Sendable
+pub mod Doings

@@ -12,10 +12,10 @@ use Rattle.std.specs.declared.result.Result.the-variants.{Ok, Err}
 use Rattle.memory.specs.declared.kind.Kind.{Kind}
 use Rattle.memory.specs.declared.kind.Kind.the-variants.{Program, Alter, Preset, SectorErase, BulkErase}
 use Rattle.memory.specs.Page.{block}
-use Rattle.memory.specs.Cycle.{Cycle, accepts, effect}
+use Rattle.memory.specs.Cycle.{Cycle, Goes, accepts, effect}
 use Rattle.part.specs.declared.fault.PartFault.{PartFault}
 use Rattle.part.specs.declared.fault.PartFault.the-variants.{Outside, PageData}
-use Rattle.part.specs.Meaning.{Meaning, Event, carried, protectedAt}
+use Rattle.part.specs.Meaning.{Meaning, Event, carried, cycles, protectedAt}
 use Rattle.part.specs.Verdict.{check, inside, cleanAt, verdictIf}
 use Rattle.planner.specs.declared.step.Step.{Step}
 use Rattle.planner.specs.declared.run_fault.RunFault.{RunFault}
@@ -102,3 +102,14 @@ module _ {P : Type 0} (meaning : P → Meaning) (trace : P → P → List Event 
         → (k : ℕ) (s : Step) → k < length steps → take (k + 1) steps ≡ take k steps ++ s ∷ []
         → Sends limit a (take k steps) b → meaning b .due ≡ 0 → Carries s b c → limit < meaning c .due → Polls meaning trace intact limit c to
         → Ran limit steps from to (Err (Abandoned (k + 1)))
+
+  -- exactly these cycles led from one state of a part to another, each accepted as the part then stood; beside them
+  -- only polls and reads
+  pub record Did (ys : List Cycle) (from to : P) : Type 0 where
+    pub events : List Event
+    pub happened : trace from to events
+    pub exactly : cycles events ≡ ys
+    pub shape : meaning to .shape ≡ meaning from .shape
+    pub guarded : meaning to .guarded ≡ meaning from .guarded
+    pub goes : intact from → Goes (meaning from .shape) (protectedAt (meaning from)) (meaning from .image) ys (meaning to .image)
+    pub keeps : intact from → intact to

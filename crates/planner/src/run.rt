@@ -1,5 +1,7 @@
 // A list of steps sent to a part.
-ghost use Rattle.planner.specs.Sending.{Ran};
+ghost use lib.ListN.{take};
+ghost use Rattle.planner.specs.Sending.{Did, Ran, sentBefore};
+ghost use Rattle.planner.specs.Steps.{cyclesOf};
 use crate::run_fault::RunFault;
 use crate::send::send;
 use crate::step::Step;
@@ -17,7 +19,8 @@ pub fn run<P: Part>(
     data: &[u8],
     limit: usize,
 ) -> Result<usize, RunFault>
-    ensures { λ r. ⌜ Ran (P·Part .meaning) (P·Part .trace) (P·Part .intact) (now («data» .entry)) limit (now (steps .entry)) (now (part .entry)) (now (part .exit)) r ⌝ }
+    ensures ran { λ r. ⌜ Ran (P·Part .meaning) (P·Part .trace) (P·Part .intact) (now («data» .entry)) limit (now (steps .entry)) (now (part .entry)) (now (part .exit)) r ⌝ }
+    ensures did { λ r. ⌜ Did (P·Part .meaning) (P·Part .trace) (P·Part .intact) (now («data» .entry)) (cyclesOf (now («data» .entry)) (take (sentBefore r) (now (steps .entry)))) (now (part .entry)) (now (part .exit)) ⌝ }
 {
     if limit == 0 || limit > MOST_POLLS {
         return Err(RunFault::Limit(limit));
