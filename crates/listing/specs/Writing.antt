@@ -1,0 +1,46 @@
+-- The text of exchanges.
+use Prim.Native.Nat.{ℕ, _/_, _%_}
+use mathlib.Core.Bool.{cond}
+use mathlib.Core.List.{List, [], _∷_, _++_}
+use lib.Dec.{eqb}
+use Rattle.listing.specs.declared.writer.Frame.{Frame}
+use Rattle.listing.specs.Hex.{glyph}
+use Rattle.listing.specs.Parts.{Part, note, frame, count, Spot, Exchange, exchange}
+
+abbrev pub pairText : ℕ → List ℕ
+pairText b = glyph (b / 16) ∷ glyph (b % 16) ∷ []
+
+-- each byte after a space
+unfoldable pub spacedText : List ℕ → List ℕ
+spacedText [] = []
+spacedText (b ∷ bs) = 32 ∷ pairText b ++ spacedText bs
+
+unfoldable pub pairsText : List ℕ → List ℕ
+pairsText [] = []
+pairsText (b ∷ bs) = pairText b ++ spacedText bs
+
+-- the count, if any bytes are wanted back
+abbrev pub backText : ℕ → List ℕ
+backText n = cond (eqb n 0) [] (32 ∷ 62 ∷ 32 ∷ pairText n)
+
+-- the line of an exchange, with its 0Ah
+abbrev pub lineText : Exchange → List ℕ
+lineText x = pairsText (x .sent) ++ backText (x .back) ++ 10 ∷ []
+
+-- the lines of exchanges
+unfoldable pub listing : List Exchange → List ℕ
+listing [] = []
+listing (x ∷ xs) = lineText x ++ listing xs
+
+abbrev pub exchangeOf : Frame → Exchange
+exchangeOf f = exchange (f .code ∷ f .rest .now) (f .back)
+
+-- no item is a note
+abbrev pub Kept : Part → Type 0
+Kept (note s) = ⊥
+Kept (frame s) = Unit {0}
+Kept (count s) = Unit {0}
+
+unfoldable pub Noteless : List Spot → Type 0
+Noteless [] = Unit {0}
+Noteless (i ∷ is) = Kept (i .part) × Noteless is

@@ -1,0 +1,128 @@
+// Reading a listing line by line.
+ghost use mathlib.Core.Path.{_≡_};
+ghost use mathlib.Core.List.{List, [], _∷_};
+ghost use Prim.Native.Nat.{ℕ, _+_, _-_, _<_, _≤_, _^_};
+ghost use lib.ListN.{length, getD, drop};
+ghost use denote.Ref.{now};
+ghost use Rattle.std.specs.Results.{Cases};
+ghost use Rattle.std.specs.declared.result.Result.the-variants.{Ok, Err};
+ghost use Rattle.listing.specs.declared.fault.ListingFault.the-variants.{Malformed};
+ghost use Rattle.listing.specs.Parts.{spotsOf};
+ghost use Rattle.listing.specs.Scan.{scan, inside, pairs, closing, atMark, refused, Sized, sizeOf, spotsBy};
+ghost use Rattle.listing.specs.Promise.{Next};
+use crate::bytes::byte_at;
+use crate::bytes::goes_on;
+use crate::bytes::pair;
+use crate::extent::Extent;
+use crate::fault::ListingFault;
+use crate::item::Item;
+use crate::item::Line;
+use crate::item::Placed;
+
+// What is left of a text, and the number of its first line.
+#[derive(Drop)]
+pub struct Reader<'a> {
+    rest: &'a [u8],
+    line: usize,
+    // A line has at least one byte, so its number cannot pass what a usize holds.
+    ghost room: { line + length (now rest) ≤ 2 ^ 63 },
+}
+
+impl<'a> Reader<'a> {
+    pub fn new(text: &'a [u8]) -> Reader<'a>
+        ensures rest { λ r. ⌜ r .rest .now ≡ now (text .entry) ⌝ }
+        ensures line { λ r. ⌜ r .line ≡ 1 ⌝ }
+    {
+        Reader { rest: text, line: 1 }
+    }
+
+    // The refusal of a line that cannot go on after `at` bytes.
+    fn stuck(&self, at: usize) -> ListingFault
+        requires { ⌜ at < 2 ^ 64 - 1 ⌝ }
+        ensures { λ r. ⌜ r ≡ Malformed (now (self .entry) .line) (at + 1) ⌝ }
+    {
+        ListingFault::Malformed { line: self.line, column: at + 1 }
+    }
+
+    // The note at the start of the rest.
+    fn note(&self) -> Result<Extent, ListingFault>
+        ensures same { λ r. ⌜ r ≡ refused (now (self .entry) .line) (inside 0 (now (self .entry) .rest .now)) ⌝ }
+        ensures within { λ r. ⌜ Cases r (λ x. Sized x (length (now (self .entry) .rest .now))) (λ _. Unit {0}) ⌝ }
+    {
+        let rest = self.rest;
+        for (i, b) in rest.iter().enumerate() {
+            if *b == b'\n' {
+                return Ok(Extent::Note(i));
+            }
+        }
+        Err(self.stuck(rest.len()))
+    }
+
+    // Where the pairs at the start of the rest end.
+    fn pairs_end(&self) -> Result<usize, ListingFault>
+        ensures { λ r. ⌜ Cases r
+            (λ e. (pairs 0 (now (self .entry) .rest .now) ≡ closing e (drop e (now (self .entry) .rest .now))) × (2 ≤ e) × (e ≤ length (now (self .entry) .rest .now)))
+            (λ f. refused (now (self .entry) .line) (pairs 0 (now (self .entry) .rest .now)) ≡ Err f) ⌝ }
+    {
+        let rest = self.rest;
+        let mut at = 0;
+        loop {
+            let Some(_) = pair(rest, at) else {
+                return Err(self.stuck(at));
+            };
+            at += 2;
+            if !goes_on(rest, at) {
+                return Ok(at);
+            }
+            at += 1;
+        }
+    }
+
+    // The count after the ` >` that ends before `at`.
+    fn count(&self, at: usize) -> Result<Extent, ListingFault>
+        requires { ⌜ at ≤ length (now self .rest .now) + 1 ⌝ ∗ ⌜ 2 ≤ at ⌝ }
+        ensures same { λ r. ⌜ r ≡ refused (now (self .entry) .line) (atMark at (drop at (now (self .entry) .rest .now))) ⌝ }
+        ensures within { λ r. ⌜ Cases r (λ x. Sized x (length (now (self .entry) .rest .now))) (λ _. Unit {0}) ⌝ }
+    {
+        let rest = self.rest;
+        if byte_at(rest, at) != b' ' {
+            return Err(self.stuck(at));
+        }
+        let digits = at + 1;
+        let Some(wanted) = pair(rest, digits) else {
+            return Err(self.stuck(digits));
+        };
+        if wanted == 0 {
+            return Err(self.stuck(digits));
+        }
+        let end = digits + 2;
+        if byte_at(rest, end) != b'\n' {
+            return Err(self.stuck(end));
+        }
+        Ok(Extent::Counted(end))
+    }
+
+    // The frame at the start of the rest, with its count.
+    fn frame(&self) -> Result<Extent, ListingFault>
+        ensures same { λ r. ⌜ r ≡ refused (now (self .entry) .line) (pairs 0 (now (self .entry) .rest .now)) ⌝ }
+        ensures within { λ r. ⌜ Cases r (λ x. Sized x (length (now (self .entry) .rest .now))) (λ _. Unit {0}) ⌝ }
+    {
+        let end = self.pairs_end()?;
+        match byte_at(self.rest, end) {
+            b'\n' => Ok(Extent::Frame(end)),
+            b' ' => self.count(end + 2),
+            _ => Err(self.stuck(end)),
+        }
+    }
+
+    fn extent(&self) -> Result<Extent, ListingFault>
+        ensures same { λ r. ⌜ r ≡ refused (now (self .entry) .line) (scan (now (self .entry) .rest .now)) ⌝ }
+        ensures within { λ r. ⌜ Cases r (λ x. Sized x (length (now (self .entry) .rest .now))) (λ _. Unit {0}) ⌝ }
+    {
+        if byte_at(self.rest, 0) == b';' { self.note() } else { self.frame() }
+    }
+
+    fn placed(&self, item: Item<'a>, column: usize) -> Placed<'a> {
+        Placed { item, line: self.line, column }
+    }
+}
