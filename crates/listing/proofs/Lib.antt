@@ -1,2 +1,6 @@
 pub mod Drops
 pub mod Turns
+pub mod Digits
+pub mod Sound
+pub mod Lined
+pub mod Complete

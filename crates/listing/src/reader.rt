@@ -7,7 +7,7 @@ ghost use denote.Ref.{now};
 ghost use Rattle.std.specs.Results.{Cases};
 ghost use Rattle.std.specs.declared.result.Result.the-variants.{Ok, Err};
 ghost use Rattle.listing.specs.declared.fault.ListingFault.the-variants.{Malformed};
-ghost use Rattle.listing.specs.Parts.{spotsOf};
+ghost use Rattle.listing.specs.Parts.{spot, partOf, spotOf, spotsOf};
 ghost use Rattle.listing.specs.Scan.{scan, inside, pairs, closing, atMark, refused, Sized, sizeOf, spotsBy};
 ghost use Rattle.listing.specs.Promise.{Next};
 use crate::bytes::byte_at;
@@ -122,7 +122,40 @@ impl<'a> Reader<'a> {
         if byte_at(self.rest, 0) == b';' { self.note() } else { self.frame() }
     }
 
-    fn placed(&self, item: Item<'a>, column: usize) -> Placed<'a> {
+    fn placed(&self, item: Item<'a>, column: usize) -> Placed<'a>
+        ensures { λ r. ⌜ spotOf r ≡ spot (partOf (item .entry)) (now (self .entry) .line) column ⌝ }
+    {
         Placed { item, line: self.line, column }
+    }
+
+    // The items of the line at the start of the rest.
+    fn items(&self, extent: Extent) -> Line<'a>
+        requires { ⌜ Sized extent (length (now self .rest .now)) ⌝ }
+        ensures { λ r. ⌜ spotsOf r ≡ spotsBy (now (self .entry) .line) (now (self .entry) .rest .now) extent ⌝ }
+    {
+        let rest = self.rest;
+        match extent {
+            Extent::Note(end) => Line { first: self.placed(Item::Note(&rest[0..end]), 1), count: None },
+            Extent::Frame(end) => Line { first: self.placed(Item::Frame(&rest[0..end]), 1), count: None },
+            Extent::Counted(end) => Line {
+                first: self.placed(Item::Frame(&rest[0..end - 5]), 1),
+                count: Some(self.placed(Item::Count(&rest[end - 2..end]), end - 1)),
+            },
+        }
+    }
+
+    // The items of the next line; none at the end of the text. Refused, the reader stays where it was.
+    pub fn next_line(&mut self) -> Result<Option<Line<'a>>, ListingFault>
+        ensures { λ r. ⌜ Next (now (self .entry) .line) (now (self .exit) .line) (now (self .entry) .rest .now) (now (self .exit) .rest .now) r ⌝ }
+    {
+        let rest = self.rest;
+        if rest.len() == 0 {
+            return Ok(None);
+        }
+        let extent = self.extent()?;
+        let line = self.items(extent);
+        self.rest = &rest[extent.len() + 1..];
+        self.line += 1;
+        Ok(Some(line))
     }
 }
