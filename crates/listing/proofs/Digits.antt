@@ -62,3 +62,11 @@ pair-spelled [] v e = absurd (let z : _≡_ {A = ℕ} 0 1 = cc in omega arith)
 pair-spelled (a ∷ []) v e = absurd (lone (digitOf a) v e)
 pair-spelled (a ∷ b ∷ s) v e =
     record { word = a ∷ b ∷ []; left = s; spelled = join-spelled a b v (digitOf a) (digitOf b) refl refl e; text = refl }
+
+pub pair-here : (a b v : ℕ) (s : List ℕ) → pairOf (a ∷ b ∷ s) ≡ Some v → Pair (a ∷ b ∷ []) v
+unfolding pairOf
+pair-here a b v s e = join-spelled a b v (digitOf a) (digitOf b) refl refl e
+
+pub pair-alone : (a v : ℕ) → pairOf (a ∷ []) ≡ Some v → ⊥
+unfolding pairOf
+pair-alone a v e = lone (digitOf a) v e

@@ -4,3 +4,5 @@ pub mod Digits
 pub mod Sound
 pub mod Lined
 pub mod Complete
+pub mod Spelling
+pub mod Single

@@ -4,4 +4,5 @@ pub mod Parts
 pub mod Grammar
 pub mod Writing
 pub mod Scan
+pub mod Values
 pub mod Promise

@@ -1,8 +1,9 @@
 -- The text of exchanges.
-use Prim.Native.Nat.{ℕ, _/_, _%_}
+use Prim.Native.Nat.{ℕ, _+_, _/_, _%_}
 use mathlib.Core.Bool.{cond}
 use mathlib.Core.List.{List, [], _∷_, _++_}
 use lib.Dec.{eqb}
+use lib.ListN.{length, take, drop}
 use Rattle.listing.specs.declared.writer.Frame.{Frame}
 use Rattle.listing.specs.Hex.{glyph}
 use Rattle.listing.specs.Parts.{Part, note, frame, count, Spot, Exchange, exchange}
@@ -44,3 +45,26 @@ Kept (count s) = Unit {0}
 unfoldable pub Noteless : List Spot → Type 0
 Noteless [] = Unit {0}
 Noteless (i ∷ is) = Kept (i .part) × Noteless is
+
+-- the buffer l after w was written from `at` on
+unfoldable pub laid : ℕ → List ℕ → List ℕ → List ℕ
+laid at w l = take at l ++ (w ++ drop (at + length w) l)
+
+-- what is kept of a line with these items: nothing of a note, and of a frame its text, count and 0Ah
+abbrev pub textOf : Part → List ℕ
+textOf (note s) = s
+textOf (frame s) = s
+textOf (count s) = s
+
+abbrev pub keptCount : List Spot → List ℕ
+keptCount [] = 10 ∷ []
+keptCount (i ∷ is) = 32 ∷ 62 ∷ 32 ∷ textOf (i .part) ++ 10 ∷ []
+
+abbrev pub keptBy : Part → List Spot → List ℕ
+keptBy (note s) is = []
+keptBy (frame s) is = s ++ keptCount is
+keptBy (count s) is = []
+
+abbrev pub keptOf : List Spot → List ℕ
+keptOf [] = []
+keptOf (i ∷ is) = keptBy (i .part) is

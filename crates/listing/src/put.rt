@@ -1,0 +1,35 @@
+// Writing parts of a text one after another into a lent buffer.
+ghost use mathlib.Core.Path.{_≡_};
+ghost use Prim.Native.Nat.{ℕ, _+_, _<_, _≤_};
+ghost use lib.ListN.{length};
+ghost use Rattle.listing.specs.Hex.{glyph as hex};
+ghost use Rattle.listing.specs.Writing.{laid, pairText};
+
+// Writes the bytes from `at` on, and gives the place after them.
+pub fn put(into: &mut [u8], at: usize, bytes: &[u8]) -> usize
+    requires { ⌜ at + length (now bytes) ≤ length (now into) ⌝ }
+    ensures place { λ r. ⌜ r ≡ at + length (now (bytes .entry)) ⌝ }
+    ensures buffer { λ _. ⌜ now (into .exit) ≡ laid at (now (bytes .entry)) (now (into .entry)) ⌝ }
+{
+    let end = at + bytes.len();
+    into[at..end].copy_from_slice(bytes);
+    end
+}
+
+// The digit of a value below 16.
+fn glyph(value: u8) -> u8
+    requires { ⌜ value < 16 ⌝ }
+    ensures { λ r. ⌜ r ≡ hex value ⌝ }
+{
+    if value < 10 { b'0' + value } else { b'A' - 10 + value }
+}
+
+// Writes the pair of a byte from `at` on, and gives the place after it.
+pub fn put_pair(into: &mut [u8], at: usize, byte: u8) -> usize
+    requires { ⌜ at + 2 ≤ length (now into) ⌝ }
+    ensures place { λ r. ⌜ r ≡ at + 2 ⌝ }
+    ensures buffer { λ _. ⌜ now (into .exit) ≡ laid at (pairText byte) (now (into .entry)) ⌝ }
+{
+    let pair = [glyph(byte / 16), glyph(byte % 16)];
+    put(into, at, &pair)
+}
