@@ -6,3 +6,6 @@ pub mod Lined
 pub mod Complete
 pub mod Spelling
 pub mod Single
+pub mod Laying
+pub mod Keeping
+pub mod Progress

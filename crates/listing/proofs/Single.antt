@@ -14,16 +14,12 @@ use Rattle.listing.specs.Hex.{Pair, Pairs}
 use Rattle.listing.specs.Parts.{Part, note, frame, count, Spot, spot, Exchange, exchange}
 use Rattle.listing.specs.Grammar.{LineText, noted, framed, counted, Stops, Ending, ended, failed, Reads, over, broken, line, Unambiguous}
 use Rattle.listing.specs.Scan.{pairOf, scan, sizeOf, spotsBy}
-use Rattle.listing.specs.Values.{values}
+use Rattle.listing.specs.Values.{values, good}
 use Rattle.listing.proofs.Digits.{pair-read}
 use Rattle.listing.proofs.Spelling.{values-read}
 use Rattle.listing.proofs.Complete.{stops-read, Seen, line-read}
 
 -- what the items of a line ask for
-abbrev good : Result (List ℕ) ℕ → List ℕ
-good (Ok bs) = bs
-good (Err at) = []
-
 abbrev valueOr : Option ℕ → ℕ
 valueOr None = 0
 valueOr (Some v) = v

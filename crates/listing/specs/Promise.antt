@@ -1,6 +1,7 @@
 -- What the reader, the writer and the rewriting promise.
 use Prim.Native.Nat.{ℕ, _+_, _<_, _≤_}
 use mathlib.Core.Path.{_≡_}
+use mathlib.Core.Logic.{_⊎_}
 use mathlib.Core.List.{List, [], _∷_, _++_}
 use lib.ListN.{length, drop}
 use Rattle.std.specs.declared.option.Option.{Option}
@@ -35,3 +36,35 @@ Next l m was left (Err f) = ((c : ℕ) × Stops was c × (row f ≡ malformedAt 
 -- the text cannot be read to its end, and the refusal is the place where it fails
 abbrev pub Refuses : List ℕ → ListingFault → Type 0
 Refuses t f = ((l : ℕ) × (c : ℕ) × (is : List Spot) × (xs : List Exchange) × Reads 1 t is xs (failed l c) × (row f ≡ malformedAt l c))
+
+-- the text reads to its end as these exchanges, the lines of which are n bytes long
+pub record Measured (t : List ℕ) (n : ℕ) : Type 0 where
+  pub items : List Spot
+  pub exchanges : List Exchange
+  pub reads : Reads 1 t items exchanges ended
+  pub size : n ≡ length (listing exchanges)
+
+-- a text that was read is written again into a buffer that held `was` and then holds `left`
+pub record Rewritten (t was left : List ℕ) (n : ℕ) : Type 0 where
+  pub items : List Spot
+  pub exchanges : List Exchange
+  pub reads : Reads 1 t items exchanges ended
+  pub size : n ≡ length (listing exchanges)
+  pub buffer : left ≡ listing exchanges ++ drop n was
+  -- without notes it is the same text
+  pub same : Noteless items → listing exchanges ≡ t
+  -- and what was written reads as the same exchanges
+  pub items-again : List Spot
+  pub again : Reads 1 (listing exchanges) items-again exchanges ended
+
+-- a text that was read and whose lines do not fit the buffer
+pub record Unfit (t was : List ℕ) (f : ListingFault) : Type 0 where
+  pub needed : ℕ
+  pub measured : Measured t needed
+  pub short : length was < needed
+  pub refusal : row f ≡ shortOf needed
+
+-- a call that writes a text again; refused, it leaves the buffer as it was
+abbrev pub Rewrites : List ℕ → List ℕ → List ℕ → Result ℕ ListingFault → Type 0
+Rewrites t was left (Ok n) = Rewritten t was left n
+Rewrites t was left (Err f) = (Refuses t f ⊎ Unfit t was f) × (left ≡ was)

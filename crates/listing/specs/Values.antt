@@ -28,6 +28,15 @@ values at (a ∷ []) = onPair (pairOf (a ∷ [])) (Err at) (λ v. Ok (v ∷ []))
 values at (a ∷ b ∷ []) = onPair (pairOf (a ∷ b ∷ [])) (Err at) (λ v. Ok (v ∷ []))
 values at (a ∷ b ∷ c ∷ s) = onPair (pairOf (a ∷ b ∷ c ∷ s)) (Err at) (λ v. after v (at + 2) (c ∷ s) (values (at + 3) s))
 
+abbrev pub good : Result (List ℕ) ℕ → List ℕ
+good (Ok bs) = bs
+good (Err at) = []
+
+-- how many there are, after n others
+abbrev pub tallied : ℕ → Result (List ℕ) ℕ → Result ℕ ListingFault
+tallied n (Ok bs) = Ok (n + length bs)
+tallied n (Err at) = Err (Malformed 1 (at + 1))
+
 -- they are the values that the grammar gives the text
 abbrev pub Spelled : List ℕ → Type 0
 Spelled s = ((bs : List ℕ) → Pairs s bs → values 0 s ≡ Ok bs) × ((bs : List ℕ) → values 0 s ≡ Ok bs → Pairs s bs)

@@ -1,4 +1,7 @@
 // The items of a listing, each a part of its text.
+ghost use mathlib.Core.Path.{_≡_};
+ghost use Rattle.listing.specs.Parts.{partOf};
+ghost use Rattle.listing.specs.Writing.{textOf};
 
 #[derive(Clone, Copy)]
 pub enum Item<'a> {
@@ -8,6 +11,16 @@ pub enum Item<'a> {
     Frame(&'a [u8]),
     // One pair.
     Count(&'a [u8]),
+}
+
+impl<'a> Item<'a> {
+    pub fn text(self) -> &'a [u8]
+        ensures { λ r. ⌜ now r ≡ textOf (partOf (self .entry)) ⌝ }
+    {
+        match self {
+            Item::Note(text) | Item::Frame(text) | Item::Count(text) => text,
+        }
+    }
 }
 
 // An item and where it begins, both counted from 1, the column in bytes.
