@@ -7,14 +7,17 @@ use lib.ListN.{length, length-append}
 use mathlib.Core.Logic.{_⊎_, inl, inr}
 use Rattle.std.proofs.shelf.Lists.{append-nil}
 use Rattle.std.proofs.shelf.Tests.{cases-eq}
+use Rattle.std.specs.declared.option.Option.{Option}
+use Rattle.std.specs.declared.option.Option.the-variants.{Some, None}
+use Rattle.listing.specs.declared.item.Placed.{Placed}
 use Rattle.listing.specs.declared.item.Item.{Item}
 use Rattle.listing.specs.declared.item.Item.the-variants.{Note, Frame, Count}
 use Rattle.listing.specs.Hex.{glyph, Pair, pair, Pairs, one, more}
-use Rattle.listing.specs.Parts.{Part, note, frame, count, Spot, spot, partOf, Exchange, exchange}
+use Rattle.listing.specs.Parts.{Part, note, frame, count, Spot, spot, partOf, countOf, Exchange, exchange}
 use Rattle.listing.specs.Grammar.{LineText, noted, framed, counted, Ending, ended, failed, Reads, over, broken, line}
-use Rattle.listing.specs.Writing.{pairText, spacedText, pairsText, backText, lineText, listing, Kept, Noteless, keptCount, keptBy, keptOf, Bytes, ReadsBack}
+use Rattle.listing.specs.Writing.{pairText, spacedText, pairsText, backText, lineText, listing, Noteless, laid, textOf, keptCount, keptBy, keptOf, Bytes, ReadsBack}
 use Rattle.listing.proofs.Digits.{pair-size}
-use Rattle.listing.proofs.Laying.{back-some, line-parts}
+use Rattle.listing.proofs.Laying.{back-some, laid-join}
 
 pub kept-other : (i : Item) (is : List Spot) → ((s : _) → i ≡ Frame s → ⊥) → keptBy (partOf i) is ≡ []
 kept-other (Note s) is h = refl
@@ -147,3 +150,25 @@ frame-reads c n bs h k = go (cases-eq n 0)
         let js = spot (frame w) 1 1 ∷ spot (count (pairText n)) 1 (length (w ++ 32 ∷ 62 ∷ 32 ∷ []) + 1) ∷ [] in
         let P : List ℕ → Type 0 = λ t. Reads 1 t js (exchange (c ∷ bs) n ∷ []) ended in
         (js, subst P (sym (counted-line ps p z)) (line (counted ps p z) over))
+
+-- the parts of a kept line laid one after another
+pub two-laid : (at e : ℕ) (a b l l₁ l₂ : List ℕ) → l₁ ≡ laid at a l → e ≡ at + length a → l₂ ≡ laid e b l₁ → at + length (a ++ b) ≤ length l → l₂ ≡ laid at (a ++ b) l
+two-laid at e a b l l₁ l₂ p q r h =
+    let k = length-append a b in r ∙ ap (laid e b) p ∙ laid-join at e a b l q (omega arith)
+
+pub frame-kept : (i : Item) (s : _) (is : List Spot) → i ≡ Frame s → keptBy (partOf i) is ≡ s .now ++ keptCount is
+frame-kept i s is e = ap (λ x. keptBy (partOf x) is) e
+
+pub count-kept : (o : Option Placed) (p : Placed) (w : List ℕ) → o ≡ Some p → w ≡ textOf (partOf (p .item)) → keptCount (countOf o) ≡ (32 ∷ 62 ∷ 32 ∷ []) ++ (w ++ 10 ∷ [])
+count-kept o p w e f = ap (λ x. keptCount (countOf x)) e ∙ ap (λ y. 32 ∷ 62 ∷ 32 ∷ y ++ 10 ∷ []) (sym f)
+
+pub count-size : (w : List ℕ) → length ((32 ∷ 62 ∷ 32 ∷ []) ++ (w ++ 10 ∷ [])) ≡ length w + 4
+count-size w = let k = length-append w (10 ∷ []) in omega arith
+
+pub count-laid : (at d e : ℕ) (w l l₁ l₂ l₃ : List ℕ) → l₁ ≡ laid at (32 ∷ 62 ∷ 32 ∷ []) l → d ≡ at + 3 → l₂ ≡ laid d w l₁ → e ≡ d + length w → l₃ ≡ laid e (10 ∷ []) l₂ →
+    at + (length w + 4) ≤ length l → l₃ ≡ laid at ((32 ∷ 62 ∷ 32 ∷ []) ++ (w ++ 10 ∷ [])) l
+count-laid at d e w l l₁ l₂ l₃ p q r s u h =
+    let M = 32 ∷ 62 ∷ 32 ∷ [] in
+    let k : length (M ++ w) ≡ length w + 3 = omega arith in
+    let a : l₂ ≡ laid at (M ++ w) l = r ∙ ap (laid d w) p ∙ laid-join at d M w l q (omega arith) in
+    u ∙ ap (laid e (10 ∷ [])) a ∙ laid-join at e (M ++ w) (10 ∷ []) l (omega arith) (omega arith)

@@ -7,5 +7,6 @@ pub mod Complete
 pub mod Spelling
 pub mod Single
 pub mod Laying
+pub mod Answering
 pub mod Keeping
 pub mod Progress

@@ -30,7 +30,7 @@ fn count_pairs(pairs: &[u8]) -> Result<usize, ListingFault>
 }
 
 fn copy_values(pairs: &[u8], count: usize, into: &mut [u8])
-    requires { ⌜ count ≡ length (good (values 0 (now pairs))) ⌝ ∗ ⌜ count ≤ length (now into) ⌝ ∗ ⌜ count ≤ length (now pairs) ⌝ }
+    requires { ⌜ count ≡ length (good (values 0 (now pairs))) ⌝ ∗ ⌜ count ≤ length (now into) ⌝ }
     ensures { λ _. ⌜ now (into .exit) ≡ good (values 0 (now (pairs .entry))) ++ drop count (now (into .entry)) ⌝ }
 {
     let mut at = 0;
