@@ -168,7 +168,7 @@ count-size w = let k = length-append w (10 ∷ []) in omega arith
 pub count-laid : (at d e : ℕ) (w l l₁ l₂ l₃ : List ℕ) → l₁ ≡ laid at (32 ∷ 62 ∷ 32 ∷ []) l → d ≡ at + 3 → l₂ ≡ laid d w l₁ → e ≡ d + length w → l₃ ≡ laid e (10 ∷ []) l₂ →
     at + (length w + 4) ≤ length l → l₃ ≡ laid at ((32 ∷ 62 ∷ 32 ∷ []) ++ (w ++ 10 ∷ [])) l
 count-laid at d e w l l₁ l₂ l₃ p q r s u h =
-    let M = 32 ∷ 62 ∷ 32 ∷ [] in
+    let M : List ℕ = 32 ∷ 62 ∷ 32 ∷ [] in
     let k : length (M ++ w) ≡ length w + 3 = omega arith in
     let a : l₂ ≡ laid at (M ++ w) l = r ∙ ap (laid d w) p ∙ laid-join at d M w l q (omega arith) in
     u ∙ ap (laid e (10 ∷ [])) a ∙ laid-join at e (M ++ w) (10 ∷ []) l (omega arith) (omega arith)

@@ -44,6 +44,14 @@ pub record Measured (t : List ℕ) (n : ℕ) : Type 0 where
   pub reads : Reads 1 t items exchanges ended
   pub size : n ≡ length (listing exchanges)
 
+-- the lines of a text that reads to its end fit a buffer of n bytes
+abbrev pub Fits : List ℕ → ℕ → Type 0
+Fits t n = ((m : ℕ) × Measured t m × (m ≤ n))
+
+-- they are written over the start of the buffer
+abbrev pub Copied : List ℕ → List ℕ → List ℕ → Type 0
+Copied t was left = ((is : List Spot) (xs : List Exchange) → Reads 1 t is xs ended → left ≡ listing xs ++ drop (length (listing xs)) was)
+
 -- a text that was read is written again into a buffer that held `was` and then holds `left`
 pub record Rewritten (t was left : List ℕ) (n : ℕ) : Type 0 where
   pub items : List Spot

@@ -5,7 +5,7 @@ ghost use lib.ListN.{length};
 ghost use Rattle.std.specs.Results.{Cases};
 ghost use Rattle.listing.specs.Grammar.{Unambiguous};
 ghost use Rattle.listing.specs.Parts.{spotsOf, countOf};
-ghost use Rattle.listing.specs.Promise.{Measured, Refuses, Rewrites};
+ghost use Rattle.listing.specs.Promise.{Measured, Refuses, Fits, Copied, Rewrites};
 ghost use Rattle.listing.specs.Writing.{laid, keptOf, keptCount};
 use crate::fault::ListingFault;
 use crate::item::Item;
@@ -72,5 +72,36 @@ pub fn rewritten_len(text: &[u8]) -> Result<usize, ListingFault>
     while let Some(line) = reader.next_line()? {
         needed += kept_len(line);
     }
+    Ok(needed)
+}
+
+// Writes the kept lines of a listing that reads to its end and fits.
+fn copy_kept(text: &[u8], into: &mut [u8])
+    requires { ⌜ Fits (now text) (length (now into)) ⌝ }
+    ensures { λ _. ⌜ Copied (now (text .entry)) (now (into .entry)) (now (into .exit)) ⌝ }
+{
+    let mut reader = Reader::new(text);
+    let mut at = 0;
+    loop {
+        let Ok(next) = reader.next_line() else {
+            return;
+        };
+        let Some(line) = next else {
+            return;
+        };
+        at = keep(line, into, at);
+    }
+}
+
+// Reads a listing and writes it again, without its notes, at the start of the buffer, and gives its length.
+// Refused, the buffer stays as it was.
+pub fn rewrite(text: &[u8], into: &mut [u8]) -> Result<usize, ListingFault>
+    ensures { λ r. ⌜ Rewrites (now (text .entry)) (now (into .entry)) (now (into .exit)) r ⌝ }
+{
+    let needed = rewritten_len(text)?;
+    if into.len() < needed {
+        return Err(ListingFault::TextShort { needed: needed as u128 });
+    }
+    copy_kept(text, into);
     Ok(needed)
 }
