@@ -119,6 +119,7 @@ run-stuck wanted at s h = go (pairOf s) refl
     zeroed : (v : ℕ) (b : Bool) → pairOf s ≡ Some v → eqb v 0 ≡ b → cond (eqb v 0) (Err at) (atEnd (at + 2) (drop 2 s)) ≡ Err at
     zeroed v true e z = ap (λ c. cond c (Err at) (atEnd (at + 2) (drop 2 s))) z
     zeroed v false e z = let l = pair-spelled s v e in absurd (h .0 (l .word) (l .left) told (counts (l .spelled) (eqb-false v 0 z)) (l .text))
+
     go : (o : Option ℕ) → pairOf s ≡ o → onPair (pairOf s) (Err at) (λ v. cond (eqb v 0) (Err at) (atEnd (at + 2) (drop 2 s))) ≡ Err at
     go None e = ap (λ o. onPair o (Err at) (λ v. cond (eqb v 0) (Err at) (atEnd (at + 2) (drop 2 s)))) e
     go (Some v) e = ap (λ o. onPair o (Err at) (λ v. cond (eqb v 0) (Err at) (atEnd (at + 2) (drop 2 s)))) e ∙ zeroed v (eqb v 0) e refl
@@ -153,29 +154,29 @@ pub record Seen (l : ℕ) (s w : List ℕ) (is : List Spot) : Type 0 where
 pub line-read : {l : ℕ} {w : List ℕ} {is : List Spot} {xs : List Exchange} (t : List ℕ) → LineText l w is xs → Seen l (w ++ 10 ∷ t) w is
 unfolding closing inside
 line-read {l} t (noted {w} u) =
-    record
-    { extent = Note (length (59 ∷ w))
-    ; scanned = run-path 0 (10 ∷ t) (step opens (noting u)) ∙ ap (λ n. Ok (Note n)) (let h : 0 + length (59 ∷ w) ≡ length (59 ∷ w) = omega arith in h)
-    ; spots = spots-note l (length (59 ∷ w)) (59 ∷ w) (10 ∷ t) refl
-    ; size = refl
+    record {
+      extent = Note (length (59 ∷ w));
+      scanned = run-path 0 (10 ∷ t) (step opens (noting u)) ∙ ap (λ n. Ok (Note n)) (let h : 0 + length (59 ∷ w) ≡ length (59 ∷ w) = omega arith in h);
+      spots = spots-note l (length (59 ∷ w)) (59 ∷ w) (10 ∷ t) refl;
+      size = refl;
     }
 line-read {l} t (framed {w} ps) =
-    record
-    { extent = Frame (length w)
-    ; scanned = run-path 0 (10 ∷ t) (opened start (λ u v p. first p) ps) ∙ ap (λ n. Ok (Frame n)) (let h : 0 + length w ≡ length w = omega arith in h)
-    ; spots = spots-frame l (length w) w (10 ∷ t) refl
-    ; size = refl
+    record {
+      extent = Frame (length w);
+      scanned = run-path 0 (10 ∷ t) (opened start (λ u v p. first p) ps) ∙ ap (λ n. Ok (Frame n)) (let h : 0 + length w ≡ length w = omega arith in h);
+      spots = spots-frame l (length w) w (10 ∷ t) refl;
+      size = refl;
     }
 line-read {l} t (counted {w} {v} ps p z) =
     let n = length (w ++ 32 ∷ 62 ∷ 32 ∷ v) in
     let k = pair-size p in
     let a = length-append w (32 ∷ 62 ∷ 32 ∷ v) in
     let c : Spells wanted v told = subst (λ x. Spells wanted x told) (append-nil v) (step (counts p z) here) in
-    record
-    { extent = Counted n
-    ; scanned =
-      run-path 0 (10 ∷ t) (joined-paths (opened start (λ u v p. first p) ps) (step spaces (step marks (step parts c))))
-      ∙ ap (λ m. Ok (Counted m)) (let h : 0 + n ≡ n = omega arith in h)
-    ; spots = spots-count l n w v (10 ∷ t) k (omega arith)
-    ; size = refl
+    record {
+      extent = Counted n;
+      scanned =
+          run-path 0 (10 ∷ t) (joined-paths (opened start (λ u v p. first p) ps) (step spaces (step marks (step parts c))))
+          ∙ ap (λ m. Ok (Counted m)) (let h : 0 + n ≡ n = omega arith in h);
+      spots = spots-count l n w v (10 ∷ t) k (omega arith);
+      size = refl;
     }

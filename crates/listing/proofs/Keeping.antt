@@ -10,19 +10,15 @@ use Rattle.std.proofs.shelf.Tests.{cases-eq}
 use Rattle.std.specs.declared.option.Option.{Option}
 use Rattle.std.specs.declared.option.Option.the-variants.{Some, None}
 use Rattle.listing.specs.declared.item.Placed.{Placed}
-use Rattle.listing.specs.declared.item.Item.{Item}
-use Rattle.listing.specs.declared.item.Item.the-variants.{Note, Frame, Count}
 use Rattle.listing.specs.Hex.{glyph, Pair, pair, Pairs, one, more}
 use Rattle.listing.specs.Parts.{Part, note, frame, count, Spot, spot, partOf, countOf, Exchange, exchange}
 use Rattle.listing.specs.Grammar.{LineText, noted, framed, counted, Ending, ended, failed, Reads, over, broken, line}
-use Rattle.listing.specs.Writing.{pairText, spacedText, pairsText, backText, lineText, listing, Noteless, laid, textOf, keptCount, keptBy, keptOf, Bytes, ReadsBack}
+use Rattle.listing.specs.Writing.{pairText, spacedText, pairsText, backText, lineText, listing, Noteless, laid, textOf, frameText, held, keptCount, keptFrom, keptOf, Bytes, ReadsBack}
 use Rattle.listing.proofs.Digits.{pair-size}
 use Rattle.listing.proofs.Laying.{back-some, laid-join}
 
-pub kept-other : (i : Item) (is : List Spot) → ((s : _) → i ≡ Frame s → ⊥) → keptBy (partOf i) is ≡ []
-kept-other (Note s) is h = refl
-kept-other (Frame s) is h = absurd (h s refl)
-kept-other (Count s) is h = refl
+pub kept-other : (p : Part) (o : Option _) (is : List Spot) → o ≡ None → held o ≡ frameText p → keptFrom (frameText p) is ≡ []
+kept-other p o is e f = ap (λ x. keptFrom x is) (sym f ∙ ap held e)
 
 pair-text : {w : List ℕ} {v : ℕ} → Pair w v → pairText v ≡ w
 pair-text (pair h l p q) =
@@ -135,12 +131,15 @@ frame-reads c n bs h k = go (cases-eq n 0)
   where
     w : List ℕ
     w = pairsText (c ∷ bs)
+
     ps : Pairs w (c ∷ bs)
     ps = byte-pairs c bs h
+
     plain : (is : List Spot) × Reads 1 (lineText (exchange (c ∷ bs) 0)) is (exchange (c ∷ bs) 0 ∷ []) ended
     plain =
         let P : List ℕ → Type 0 = λ t. Reads 1 t (spot (frame w) 1 1 ∷ []) (exchange (c ∷ bs) 0 ∷ []) ended in
         (spot (frame w) 1 1 ∷ [], subst P (sym (plain-line ps)) (line (framed ps) over))
+
     go : (n ≡ 0) ⊎ (n ≡ 0 → ⊥) → (is : List Spot) × Reads 1 (lineText (exchange (c ∷ bs) n)) is (exchange (c ∷ bs) n ∷ []) ended
     go (inl z) =
         let P : ℕ → Type 0 = λ m. (is : List Spot) × Reads 1 (lineText (exchange (c ∷ bs) m)) is (exchange (c ∷ bs) m ∷ []) ended in
@@ -156,8 +155,8 @@ pub two-laid : (at e : ℕ) (a b l l₁ l₂ : List ℕ) → l₁ ≡ laid at a 
 two-laid at e a b l l₁ l₂ p q r h =
     let k = length-append a b in r ∙ ap (laid e b) p ∙ laid-join at e a b l q (omega arith)
 
-pub frame-kept : (i : Item) (s : _) (is : List Spot) → i ≡ Frame s → keptBy (partOf i) is ≡ s .now ++ keptCount is
-frame-kept i s is e = ap (λ x. keptBy (partOf x) is) e
+pub frame-kept : (p : Part) (o : Option _) (s : _) (is : List Spot) → o ≡ Some s → held o ≡ frameText p → keptFrom (frameText p) is ≡ s .now ++ keptCount is
+frame-kept p o s is e f = ap (λ x. keptFrom x is) (sym f ∙ ap held e)
 
 pub count-kept : (o : Option Placed) (p : Placed) (w : List ℕ) → o ≡ Some p → w ≡ textOf (partOf (p .item)) → keptCount (countOf o) ≡ (32 ∷ 62 ∷ 32 ∷ []) ++ (w ++ 10 ∷ [])
 count-kept o p w e f = ap (λ x. keptCount (countOf x)) e ∙ ap (λ y. 32 ∷ 62 ∷ 32 ∷ y ++ 10 ∷ []) (sym f)

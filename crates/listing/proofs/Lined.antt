@@ -42,7 +42,7 @@ spots-count l e w v t k h =
     let g : length (w ++ 32 ∷ 62 ∷ 32 ∷ []) ≡ e - 2 = omega arith in
     let b : (w ++ 32 ∷ 62 ∷ 32 ∷ v) ++ t ≡ (w ++ 32 ∷ 62 ∷ 32 ∷ []) ++ (v ++ t) = a ∙ sym (append-assoc w (32 ∷ 62 ∷ 32 ∷ []) (v ++ t)) in
     let q : take 2 (drop (e - 2) ((w ++ 32 ∷ 62 ∷ 32 ∷ v) ++ t)) ≡ v =
-        ap (λ x. take 2 (drop (e - 2) x)) b ∙ ap (take 2) (drop-at (w ++ 32 ∷ 62 ∷ 32 ∷ []) (v ++ t) (e - 2) g) ∙ take-at v t 2 k in
+    ap (λ x. take 2 (drop (e - 2) x)) b ∙ ap (take 2) (drop-at (w ++ 32 ∷ 62 ∷ 32 ∷ []) (v ++ t) (e - 2) g) ∙ take-at v t 2 k in
     let c : e - 1 ≡ length (w ++ 32 ∷ 62 ∷ 32 ∷ []) + 1 = omega arith in
     ap (λ x. spot (frame x) l 1 ∷ spot (count (take 2 (drop (e - 2) ((w ++ 32 ∷ 62 ∷ 32 ∷ v) ++ t)))) l (e - 1) ∷ []) p
     ∙ ap (λ x. spot (frame w) l 1 ∷ spot (count x) l (e - 1) ∷ []) q
@@ -63,40 +63,40 @@ Line-is l s (Err e) = Stops s (e + 1)
 
 stops : (s : List ℕ) (e : ℕ) → (s ≡ [] → ⊥) → Broke start 0 s e → Stops s (e + 1)
 stops s e h b =
-    record
-    { front = b .front
-    ; rest = b .rest
-    ; at = b .place
-    ; spelled = b .spelled
-    ; stuck = b .stuck
-    ; text = b .text
-    ; column = let z = b .size in omega arith
-    ; some = h
+    record {
+      front = b .front;
+      rest = b .rest;
+      at = b .place;
+      spelled = b .spelled;
+      stuck = b .stuck;
+      text = b .text;
+      column = let z = b .size in omega arith;
+      some = h;
     }
 
 of-pairs : (l : ℕ) (s : List ℕ) {o : Result Extent ℕ} → (s ≡ [] → ⊥) → AtPairs start 0 s o → Line-is l s o
 of-pairs l s h (sound.framed {w} {bs} t e ps x f) =
     let n : e ≡ length w = omega arith in
     let i = ap (λ y. spotsBy l y (Frame e)) x ∙ spots-frame l e w (10 ∷ t) n in
-    record
-    { text = w
-    ; left = t
-    ; exchanges = exchange bs 0 ∷ []
-    ; reads = let P : List Spot → Type 0 = λ y. LineText l w y (exchange bs 0 ∷ []) in subst P (sym i) (framed ps)
-    ; split = x
-    ; size = n
+    record {
+      text = w;
+      left = t;
+      exchanges = exchange bs 0 ∷ [];
+      reads = let P : List Spot → Type 0 = λ y. LineText l w y (exchange bs 0 ∷ []) in subst P (sym i) (framed ps);
+      split = x;
+      size = n;
     }
 of-pairs l s h (sound.counted {w} {bs} {v} {n} t e ps p z x f) =
     let k = pair-size p in
     let m : e ≡ length w + 5 = omega arith in
     let i = ap (λ y. spotsBy l y (Counted e)) x ∙ spots-count l e w v (10 ∷ t) k m in
-    record
-    { text = w ++ 32 ∷ 62 ∷ 32 ∷ v
-    ; left = t
-    ; exchanges = exchange bs n ∷ []
-    ; reads = let P : List Spot → Type 0 = λ y. LineText l (w ++ 32 ∷ 62 ∷ 32 ∷ v) y (exchange bs n ∷ []) in subst P (sym i) (counted ps p z)
-    ; split = x
-    ; size = let a = length-append w (32 ∷ 62 ∷ 32 ∷ v) in omega arith
+    record {
+      text = w ++ 32 ∷ 62 ∷ 32 ∷ v;
+      left = t;
+      exchanges = exchange bs n ∷ [];
+      reads = let P : List Spot → Type 0 = λ y. LineText l (w ++ 32 ∷ 62 ∷ 32 ∷ v) y (exchange bs n ∷ []) in subst P (sym i) (counted ps p z);
+      split = x;
+      size = let a = length-append w (32 ∷ 62 ∷ 32 ∷ v) in omega arith;
     }
 of-pairs l s h (sound.fails e b) = stops s e h b
 
@@ -105,13 +105,13 @@ of-note l s r h y (sound.noted {w} t e u x f) =
     let n : e ≡ length (59 ∷ w) = omega arith in
     let z : s ≡ (59 ∷ w) ++ 10 ∷ t = y ∙ ap (λ q. 59 ∷ q) x in
     let i = ap (λ q. spotsBy l q (Note e)) z ∙ spots-note l e (59 ∷ w) (10 ∷ t) n in
-    record
-    { text = 59 ∷ w
-    ; left = t
-    ; exchanges = []
-    ; reads = let P : List Spot → Type 0 = λ q. LineText l (59 ∷ w) q [] in subst P (sym i) (noted u)
-    ; split = z
-    ; size = n
+    record {
+      text = 59 ∷ w;
+      left = t;
+      exchanges = [];
+      reads = let P : List Spot → Type 0 = λ q. LineText l (59 ∷ w) q [] in subst P (sym i) (noted u);
+      split = z;
+      size = n;
     }
 of-note l s r h y (sound.fails e b) = stops s e h (broke-step 0 1 s r e opens (omega arith) y b)
 
@@ -123,6 +123,7 @@ line-sound l s h = go (eqb (getD s 0 0) 59) refl
     inner r y =
         let P : List ℕ → Type 0 = λ q. Line-is l s (inside 0 q) in
         subst P (sym y) (of-note l s r h y (inside-sound 1 r))
+
     go : (b : Bool) → eqb (getD s 0 0) 59 ≡ b → Line-is l s (cond b (inside 0 s) (pairs 0 s))
     go true e = inner (drop 1 s) (begins s 59 (omega arith) (eqb-true _ _ e))
     go false e = of-pairs l s h (pairs-sound (length s) 0 s start (omega arith) (sound.at-start (eqb-false _ _ e)))
@@ -143,10 +144,10 @@ taken l n s x r f e m =
     let a : s ≡ (w ++ 10 ∷ []) ++ f .left = f .split ∙ sym (append-assoc w (10 ∷ []) (f .left)) in
     let k : length (w ++ 10 ∷ []) ≡ n + 1 = let q = length-append w (10 ∷ []) in let z = f .size in omega arith in
     let d : drop (n + 1) s ≡ f .left = ap (drop (n + 1)) a ∙ drop-at (w ++ 10 ∷ []) (f .left) (n + 1) k in
-    record
-    { text = w
-    ; exchanges = f .exchanges
-    ; reads = let P : List Spot → Type 0 = λ y. LineText l w y (f .exchanges) in subst P (sym e) (f .reads)
-    ; split = f .split ∙ ap (λ y. w ++ 10 ∷ y) (sym d ∙ sym (take-rest s (n + 1)))
-    ; next = refl
+    record {
+      text = w;
+      exchanges = f .exchanges;
+      reads = let P : List Spot → Type 0 = λ y. LineText l w y (f .exchanges) in subst P (sym e) (f .reads);
+      split = f .split ∙ ap (λ y. w ++ 10 ∷ y) (sym d ∙ sym (take-rest s (n + 1)));
+      next = refl;
     }

@@ -49,27 +49,27 @@ progress-more {text} {l} {m} {n} {s} {left} {r} p t =
     let f = ap length (line-kept (t .reads)) in
     let g = p .size in
     let h = p .room in
-    record
-    { items = p .items ++ spotsOf r
-    ; exchanges = p .exchanges ++ t .exchanges
-    ; onward = λ js ys e q.
-        let P : List Spot → Type 0 = λ x. Reads 1 text x ((p .exchanges ++ t .exchanges) ++ ys) e in
-        let Q : List Exchange → Type 0 = λ x. Reads 1 text (p .items ++ (spotsOf r ++ js)) x e in
-        subst P (sym (append-assoc (p .items) (spotsOf r) js))
-        (subst Q (sym (append-assoc (p .exchanges) (t .exchanges) ys))
-        (p .onward (spotsOf r ++ js) (t .exchanges ++ ys) e (taken-line t q)))
-    ; size = omega arith
-    ; room = omega arith
+    record {
+      items = p .items ++ spotsOf r;
+      exchanges = p .exchanges ++ t .exchanges;
+      onward = λ js ys e q.
+          let P : List Spot → Type 0 = λ x. Reads 1 text x ((p .exchanges ++ t .exchanges) ++ ys) e in
+          let Q : List Exchange → Type 0 = λ x. Reads 1 text (p .items ++ (spotsOf r ++ js)) x e in
+          subst P (sym (append-assoc (p .items) (spotsOf r) js))
+          (subst Q (sym (append-assoc (p .exchanges) (t .exchanges) ys))
+          (p .onward (spotsOf r ++ js) (t .exchanges ++ ys) e (taken-line t q)));
+      size = omega arith;
+      room = omega arith;
     }
 
 pub progress-end : {text : List ℕ} {l n : ℕ} {s : List ℕ} → Progress text l s n → s ≡ [] → Measured text n
 progress-end {text} {l} {n} {s} p e =
     let P : List ℕ → Type 0 = λ x. Reads l x [] [] ended in
-    record
-    { items = p .items ++ []
-    ; exchanges = p .exchanges ++ []
-    ; reads = p .onward [] [] ended (subst P (sym e) over)
-    ; size = p .size ∙ ap (λ x. length (listing x)) (sym (append-nil (p .exchanges)))
+    record {
+      items = p .items ++ [];
+      exchanges = p .exchanges ++ [];
+      reads = p .onward [] [] ended (subst P (sym e) over);
+      size = p .size ∙ ap (λ x. length (listing x)) (sym (append-nil (p .exchanges)));
     }
 
 pub progress-fails : {text : List ℕ} {l n : ℕ} {s : List ℕ} (f : ListingFault) (c : ℕ) → Progress text l s n → Stops s c → row f ≡ malformedAt l c → Refuses text f
@@ -93,11 +93,11 @@ rest-of {l} {m} {left} t (line {w} {t = u} {js} {ys = zs} {e} a q) =
     let k = same-line left u (t .reads) a (sym (t .split)) in
     let P : List ℕ → Type 0 = λ x. Reads (l + 1) x js zs e in
     let Q : ℕ → Type 0 = λ n. Reads n left js zs e in
-    record
-    { items = js
-    ; exchanges = zs
-    ; reads = subst Q (sym (t .next)) (subst P (sym (k .lefts)) q)
-    ; asked = ap (λ x. x ++ zs) (sym (k .asks))
+    record {
+      items = js;
+      exchanges = zs;
+      reads = subst Q (sym (t .next)) (subst P (sym (k .lefts)) q);
+      asked = ap (λ x. x ++ zs) (sym (k .asks));
     }
 
 -- the kept lines of a text, up to line l, written over the start of a buffer that held `was` and now holds `left`
@@ -116,18 +116,18 @@ pub record Copying (text was left : List ℕ) (l : ℕ) (rest : List ℕ) (at : 
 
 pub copying-start : (text was : List ℕ) (n : ℕ) → n ≤ length was → Measured text n → Copying text was was 1 text 0
 copying-start text was n h m =
-    record
-    { all-items = m .items
-    ; all = m .exchanges
-    ; whole = m .reads
-    ; fits = let k = m .size in omega arith
-    ; items = m .items
-    ; exchanges = m .exchanges
-    ; reads = m .reads
-    ; written = []
-    ; split = refl
-    ; place = refl
-    ; buffer = refl
+    record {
+      all-items = m .items;
+      all = m .exchanges;
+      whole = m .reads;
+      fits = let k = m .size in omega arith;
+      items = m .items;
+      exchanges = m .exchanges;
+      reads = m .reads;
+      written = [];
+      split = refl;
+      place = refl;
+      buffer = refl;
     }
 
 -- the part of what is left to write that a taken line keeps
@@ -156,18 +156,18 @@ copying-more {was} {at} {r} p t e f =
     let g = copying-fits p t in
     let a = length-append (p .written) K in
     let d = p .place in
-    record
-    { all-items = p .all-items
-    ; all = p .all
-    ; whole = p .whole
-    ; fits = p .fits
-    ; items = q .items
-    ; exchanges = q .exchanges
-    ; reads = q .reads
-    ; written = p .written ++ K
-    ; split = copying-split p t
-    ; place = omega arith
-    ; buffer = e ∙ ap (laid at K) (p .buffer) ∙ laid-next at (p .written) K was d (omega arith)
+    record {
+      all-items = p .all-items;
+      all = p .all;
+      whole = p .whole;
+      fits = p .fits;
+      items = q .items;
+      exchanges = q .exchanges;
+      reads = q .reads;
+      written = p .written ++ K;
+      split = copying-split p t;
+      place = omega arith;
+      buffer = e ∙ ap (laid at K) (p .buffer) ∙ laid-next at (p .written) K was d (omega arith);
     }
 
 -- at the end of the text all is written

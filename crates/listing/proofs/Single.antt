@@ -109,10 +109,10 @@ after-line w t is js xs ys d a only x (broken {t = s} {c} h) = absurd (no-stop t
 after-line {l} w t is js xs ys d a only x (line {w = v} {t = s} {is = is′} {js = js′} {xs = xs′} {ys = ys′} {e} b r) =
     let m = same-line t s a b x in
     let P : List ℕ → Type 0 = λ y. Reads (l + 1) y js′ ys′ e in
-    let q = only js′ ys′ e (subst P (sym (m .lefts)) r) in
-    ( ap (λ y. y ++ js) (m .spots) ∙ ap (λ y. is′ ++ y) (q .0)
-    , ap (λ y. y ++ ys) (m .asks) ∙ ap (λ y. xs′ ++ y) (q .1)
-    , q .2
+    let q = only js′ ys′ e (subst P (sym (m .lefts)) r) in (
+      ap (λ y. y ++ js) (m .spots) ∙ ap (λ y. is′ ++ y) (q .0),
+      ap (λ y. y ++ ys) (m .asks) ∙ ap (λ y. xs′ ++ y) (q .1),
+      q .2,
     )
 
 only-one : {l : ℕ} {t : List ℕ} {is : List Spot} {xs : List Exchange} {d : Ending} → Reads l t is xs d → Only l t is xs d

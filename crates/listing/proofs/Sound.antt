@@ -37,14 +37,14 @@ broke-here q at s h = record { front = []; rest = s; place = q; spelled = here; 
 
 pub broke-step : {q p : Place} {w : List ℕ} (at n : ℕ) (s r : List ℕ) (e : ℕ) → Step q w p → n ≡ at + length w → s ≡ w ++ r → Broke p n r e → Broke q at s e
 broke-step {q} {p} {w} at n s r e m h x b =
-    record
-    { front = w ++ b .front
-    ; rest = b .rest
-    ; place = b .place
-    ; spelled = step m (b .spelled)
-    ; stuck = b .stuck
-    ; text = x ∙ ap (λ y. w ++ y) (b .text) ∙ sym (append-assoc w (b .front) (b .rest))
-    ; size = omega (arith, b .size, length-append w (b .front))
+    record {
+      front = w ++ b .front;
+      rest = b .rest;
+      place = b .place;
+      spelled = step m (b .spelled);
+      stuck = b .stuck;
+      text = x ∙ ap (λ y. w ++ y) (b .text) ∙ sym (append-assoc w (b .front) (b .rest));
+      size = omega (arith, b .size, length-append w (b .front));
     }
 
 -- a text that begins with a byte that is not 0
@@ -64,9 +64,9 @@ end-sound at s = go (eqb (getD s 0 0) 10) refl
     go true e = ends (drop 1 s) (begins s 10 (omega arith) (eqb-true _ _ e))
     go false e =
         fails at
-        (broke-here told at s
-        ( (λ w t q m x. elim m [ ])
-        , (λ t m x. eqb-false _ _ e (ap (λ y. getD y 0 0) x))
+        (broke-here told at s (
+          (λ w t q m x. elim m [ ]),
+          (λ t m x. eqb-false _ _ e (ap (λ y. getD y 0 0) x)),
         ))
 
 -- where the count has to stand
@@ -79,6 +79,7 @@ no-count at s h = (wrong, λ t m x. elim m [ ])
   where
     fits : {w : List ℕ} {v : ℕ} (t : List ℕ) → Pair w v → (v ≡ 0 → ⊥) → s ≡ w ++ t → ⊥
     fits {w} {v} t p z x = h v (ap pairOf x ∙ pair-read p t) z
+
     wrong : (w t : List ℕ) (q : Place) → Step wanted w q → s ≡ w ++ t → ⊥
     wrong w t q (counts p z) x = fits t p z x
 
@@ -97,6 +98,7 @@ count-sound at s = go (pairOf s) refl
         let l = pair-spelled s v e in
         let d : drop 2 s ≡ l .left = ap (drop 2) (l .text) ∙ pair-left (l .spelled) (l .left) in
         count-past at s (drop 2 s) (l .spelled) (eqb-false v 0 z) (l .text ∙ ap (λ y. l .word ++ y) (sym d)) (end-sound (at + 2) (drop 2 s))
+
     go : (o : Option ℕ) → pairOf s ≡ o → AtCount at s (onPair o (Err at) (λ v. cond (eqb v 0) (Err at) (atEnd (at + 2) (drop 2 s))))
     go None e = fails at (broke-here wanted at s (no-count at s (λ v f k. let z : _≡_ {A = ℕ} 0 1 = cc in omega arith)))
     go (Some v) e = zeroed v (eqb v 0) e refl
@@ -115,6 +117,7 @@ mark-sound at s = go (eqb (getD s 0 0) 32) refl
   where
     wrong : eqb (getD s 0 0) 32 ≡ false → (w t : List ℕ) (q : Place) → Step marked w q → s ≡ w ++ t → ⊥
     wrong e w t q parts x = eqb-false _ _ e (ap (λ y. getD y 0 0) x)
+
     go : (b : Bool) → eqb (getD s 0 0) 32 ≡ b → AtMark at s (cond b (atCount (at + 1) (drop 1 s)) (Err at))
     go true e = mark-past at s (drop 1 s) (begins s 32 (omega arith) (eqb-true _ _ e)) (count-sound (at + 1) (drop 1 s))
     go false e = fails at (broke-here marked at s (wrong e, λ t m x. elim m [ ]))
@@ -138,6 +141,7 @@ closing-sound at s g = go (eqb (getD s 0 0) 10) refl
   where
     wrong : eqb (getD s 0 0) 32 ≡ false → (w t : List ℕ) (q : Place) → Step paired w q → s ≡ w ++ t → ⊥
     wrong e w t q spaces x = eqb-false _ _ e (ap (λ y. getD y 0 0) x)
+
     marking : eqb (getD s 0 0) 32 ≡ true → s ≡ 32 ∷ 62 ∷ drop 2 s
     marking e =
         let a = begins s 32 (omega arith) (eqb-true _ _ e) in
@@ -145,9 +149,11 @@ closing-sound at s g = go (eqb (getD s 0 0) 10) refl
         let n : getD (drop 1 s) 0 0 ≡ 62 = ap (λ y. getD y 1 0) (sym a) ∙ m in
         let b = begins (drop 1 s) 62 (omega arith) n in
         a ∙ ap (λ y. 32 ∷ y) (b ∙ ap (λ y. 62 ∷ y) (drop-drop 1 1 s))
+
     further : (b : Bool) → eqb (getD s 0 0) 10 ≡ false → eqb (getD s 0 0) 32 ≡ b → Closing at s (cond b (atMark (at + 2) (drop 2 s)) (Err at))
     further true f e = closing-past at s (drop 2 s) (marking e) (mark-sound (at + 2) (drop 2 s))
     further false f e = fails at (broke-here paired at s (wrong e, λ t m x. eqb-false _ _ f (ap (λ y. getD y 0 0) x)))
+
     go : (b : Bool) → eqb (getD s 0 0) 10 ≡ b → Closing at s (cond b (Ok (Frame at)) (cond (eqb (getD s 0 0) 32) (atMark (at + 2) (drop 2 s)) (Err at)))
     go true e = framed (drop 1 s) (begins s 10 (omega arith) (eqb-true _ _ e))
     go false e = further (eqb (getD s 0 0) 32) e refl
@@ -203,10 +209,10 @@ pairs-more {q} {w} at s r m p x (counted {w = u} {v} t e ps c z y f) =
     let l = pair-size p in
     let k = length-append w (32 ∷ u) in
     counted t e (more p ps) c z
-    ( x ∙ ap (λ y. w ++ 32 ∷ y) y
-      ∙ ap (λ y. w ++ 32 ∷ y) (append-assoc u (32 ∷ 62 ∷ 32 ∷ v) (10 ∷ t))
-      ∙ sym (append-assoc w (32 ∷ u) ((32 ∷ 62 ∷ 32 ∷ v) ++ 10 ∷ t))
-      ∙ sym (append-assoc (w ++ 32 ∷ u) (32 ∷ 62 ∷ 32 ∷ v) (10 ∷ t))
+    (x ∙ ap (λ y. w ++ 32 ∷ y) y
+    ∙ ap (λ y. w ++ 32 ∷ y) (append-assoc u (32 ∷ 62 ∷ 32 ∷ v) (10 ∷ t))
+    ∙ sym (append-assoc w (32 ∷ u) ((32 ∷ 62 ∷ 32 ∷ v) ++ 10 ∷ t))
+    ∙ sym (append-assoc (w ++ 32 ∷ u) (32 ∷ 62 ∷ 32 ∷ v) (10 ∷ t))
     )
     (omega arith)
 pairs-more {q} {w} at s r m p x (fails e b) =
@@ -229,6 +235,7 @@ pairs-step at s q o rest = subst (AtPairs q at s) (sym (pairs-turn at s)) (turn 
         let l = pair-spelled s v e in
         let d : drop 2 s ≡ l .left = ap (drop 2) (l .text) ∙ pair-left (l .spelled) (l .left) in
         pairs-last at s (drop 2 s) (opening-step o (l .spelled)) (l .spelled) (l .text ∙ ap (λ y. l .word ++ y) (sym d)) (closing-sound (at + 2) (drop 2 s) g)
+
     turn : (x : Option ℕ) → pairOf s ≡ x → AtPairs q at s (onPair x (Err at) (λ _. cond (goesOn (drop 2 s)) (pairs (at + 3) (drop 3 s)) (closing (at + 2) (drop 2 s))))
     turn None e = fails at (broke-here q at s (opening-stuck o (λ v f. let z : _≡_ {A = ℕ} 0 1 = cc in omega arith)))
     turn (Some v) e = going v (goesOn (drop 2 s)) e refl
@@ -248,6 +255,7 @@ pairs-sound (suc n) at s q f o = pairs-step at s q o (λ v e g. pairs-sound n (a
         let l = pair-spelled s v e in
         let k = pair-size (l .spelled) in
         omega (arith, length-drop 3 s, ap length (l .text), length-append (l .word) (l .left))
+
     unmarked : goesOn (drop 2 s) ≡ true → getD (drop 3 s) 0 0 ≡ 62 → ⊥
     unmarked g x =
         let a : getD (drop 2 s) 1 0 ≡ 62 = next-left s 2 1 ∙ sym (first-left s 3) ∙ x in

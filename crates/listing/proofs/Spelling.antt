@@ -114,9 +114,11 @@ good-turn v t at e h = go (cases-lt (at + 2) (length t))
     kept : (r : Result (List ℕ) ℕ) → values (at + 3) (drop (at + 3) t) ≡ r → values at (drop at t) ≡ before v r → good (before v r) ≡ v ∷ good r
     kept (Ok bs) f g = refl
     kept (Err n) f g = absurd (let k = ap (λ x. length (good x)) g in omega arith)
+
     spaced : (getD t (at + 2) 0 ≡ 32) ⊎ (getD t (at + 2) 0 ≡ 32 → ⊥) → at + 2 < length t → good (values at (drop at t)) ≡ v ∷ good (values (at + 3) (drop (at + 3) t))
     spaced (inl s) l = let m = values-more t at v e l s in ap good m ∙ kept (values (at + 3) (drop (at + 3) t)) refl m
     spaced (inr s) l = absurd (let k = ap (λ x. length (good x)) (values-broken t at v e l s) in omega arith)
+
     go : (at + 2 < length t) ⊎ (length t ≤ at + 2) → good (values at (drop at t)) ≡ v ∷ good (values (at + 3) (drop (at + 3) t))
     go (inl l) = spaced (cases-eq (getD t (at + 2) 0) 32) l
     go (inr l) =
@@ -136,12 +138,12 @@ value-turn t was v at i l e h k d f =
     let b = drop-more B i 0 h in
     let x : getD B i 0 ∷ drop (i + 1) B ≡ v ∷ good (values (at + 3) (drop (at + 3) t)) = sym b ∙ d ∙ g in
     let y : getD B i 0 ≡ v = cc in
-    let z : drop (i + 1) B ≡ good (values (at + 3) (drop (at + 3) t)) = cc in
-    ( z
-    , ap (λ q. set q i v) f
-      ∙ ap (λ q. set (take i B ++ q) i v) (drop-more was i 0 k)
-      ∙ set-at (take i B) (getD was i 0) (drop (i + 1) was) v i (length-take-le i B (omega arith))
-      ∙ ap (λ q. take i B ++ q ∷ drop (i + 1) was) (sym y)
-      ∙ sym (append-assoc (take i B) (getD B i 0 ∷ []) (drop (i + 1) was))
-      ∙ ap (λ q. q ++ drop (i + 1) was) (sym (take-more B i 0 h))
+    let z : drop (i + 1) B ≡ good (values (at + 3) (drop (at + 3) t)) = cc in (
+      z,
+      ap (λ q. set q i v) f
+          ∙ ap (λ q. set (take i B ++ q) i v) (drop-more was i 0 k)
+          ∙ set-at (take i B) (getD was i 0) (drop (i + 1) was) v i (length-take-le i B (omega arith))
+          ∙ ap (λ q. take i B ++ q ∷ drop (i + 1) was) (sym y)
+          ∙ sym (append-assoc (take i B) (getD B i 0 ∷ []) (drop (i + 1) was))
+          ∙ ap (λ q. q ++ drop (i + 1) was) (sym (take-more B i 0 h)),
     )

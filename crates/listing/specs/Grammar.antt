@@ -16,9 +16,9 @@ pub data LineText (l : ℕ) : List ℕ → List Spot → List Exchange → Type 
   noted : {w : List ℕ} → Unbroken w → LineText l (59 ∷ w) (spot (note (59 ∷ w)) l 1 ∷ []) []
   framed : {w bs : List ℕ} → Pairs w bs → LineText l w (spot (frame w) l 1 ∷ []) (exchange bs 0 ∷ [])
   counted : {w bs v : List ℕ} {n : ℕ} → Pairs w bs → Pair v n → (n ≡ 0 → ⊥) →
-    LineText l (w ++ 32 ∷ 62 ∷ 32 ∷ v)
-    (spot (frame w) l 1 ∷ spot (count v) l (length (w ++ 32 ∷ 62 ∷ 32 ∷ []) + 1) ∷ [])
-    (exchange bs n ∷ [])
+      LineText l (w ++ 32 ∷ 62 ∷ 32 ∷ v)
+      (spot (frame w) l 1 ∷ spot (count v) l (length (w ++ 32 ∷ 62 ∷ 32 ∷ []) + 1) ∷ [])
+      (exchange bs n ∷ [])
 
 -- the places in a line: at its start, in a note, after a pair, after a space, after `>`, before the count and after it
 pub data Place : Type 0 where
@@ -79,7 +79,7 @@ pub data Reads : ℕ → List ℕ → List Spot → List Exchange → Ending →
   over : {l : ℕ} → Reads l [] [] [] ended
   broken : {l : ℕ} {t : List ℕ} {c : ℕ} → Stops t c → Reads l t [] [] (failed l c)
   line : {l : ℕ} {w t : List ℕ} {is js : List Spot} {xs ys : List Exchange} {e : Ending} →
-    LineText l w is xs → Reads (l + 1) t js ys e → Reads l (w ++ 10 ∷ t) (is ++ js) (xs ++ ys) e
+      LineText l w is xs → Reads (l + 1) t js ys e → Reads l (w ++ 10 ∷ t) (is ++ js) (xs ++ ys) e
 
 -- a text has one list of items and one of exchanges, and either reads to its end or fails at one place
 abbrev pub Unambiguous : Type 0

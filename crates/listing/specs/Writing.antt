@@ -3,6 +3,9 @@ use Prim.Native.Nat.{ℕ, _+_, _/_, _%_, _<_}
 use mathlib.Core.Bool.{cond}
 use mathlib.Core.List.{List, [], _∷_, _++_}
 use lib.Dec.{eqb}
+use denote.Ref.{RefT}
+use Rattle.std.specs.declared.option.Option.{Option}
+use Rattle.std.specs.declared.option.Option.the-variants.{Some, None}
 use lib.ListN.{length, take, drop}
 use Rattle.listing.specs.declared.writer.Frame.{Frame}
 use Rattle.listing.specs.Grammar.{Reads, ended}
@@ -60,21 +63,31 @@ Noteless (i ∷ is) = Kept (i .part) × Noteless is
 unfoldable pub laid : ℕ → List ℕ → List ℕ → List ℕ
 laid at w l = take at l ++ (w ++ drop (at + length w) l)
 
--- what is kept of a line with these items: nothing of a note, and of a frame its text, count and 0Ah
 abbrev pub textOf : Part → List ℕ
 textOf (note s) = s
 textOf (frame s) = s
 textOf (count s) = s
 
+-- the end of a frame's line: its count, if there is one, and 0Ah
 abbrev pub keptCount : List Spot → List ℕ
 keptCount [] = 10 ∷ []
 keptCount (i ∷ is) = 32 ∷ 62 ∷ 32 ∷ textOf (i .part) ++ 10 ∷ []
 
-abbrev pub keptBy : Part → List Spot → List ℕ
-keptBy (note s) is = []
-keptBy (frame s) is = s ++ keptCount is
-keptBy (count s) is = []
+-- the pairs of a frame
+abbrev pub frameText : Part → Option (List ℕ)
+frameText (note s) = None
+frameText (frame s) = Some s
+frameText (count s) = None
 
+abbrev pub held : Option (RefT (List ℕ)) → Option (List ℕ)
+held None = None
+held (Some s) = Some (s .now)
+
+abbrev pub keptFrom : Option (List ℕ) → List Spot → List ℕ
+keptFrom None is = []
+keptFrom (Some w) is = w ++ keptCount is
+
+-- what is kept of a line with these items: nothing of a note, and of a frame its pairs, count and 0Ah
 abbrev pub keptOf : List Spot → List ℕ
 keptOf [] = []
-keptOf (i ∷ is) = keptBy (i .part) is
+keptOf (i ∷ is) = keptFrom (frameText (i .part)) is

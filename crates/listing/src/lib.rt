@@ -4,8 +4,10 @@ mod bytes;
 mod extent;
 pub mod fault;
 pub mod item;
-mod put;
 pub mod pairs;
+mod put;
 pub mod reader;
 pub mod rewrite;
+#[cfg(test)]
+mod tests;
 pub mod writer;

@@ -15,7 +15,10 @@ fn count_pairs(pairs: &[u8]) -> Result<usize, ListingFault>
     let mut at = 0;
     loop {
         let Some(_) = pair(pairs, at) else {
-            return Err(ListingFault::Malformed { line: 1, column: at + 1 });
+            return Err(ListingFault::Malformed {
+                line: 1,
+                column: at + 1,
+            });
         };
         count += 1;
         at += 2;
@@ -23,7 +26,10 @@ fn count_pairs(pairs: &[u8]) -> Result<usize, ListingFault>
             return Ok(count);
         }
         if pairs[at] != b' ' {
-            return Err(ListingFault::Malformed { line: 1, column: at + 1 });
+            return Err(ListingFault::Malformed {
+                line: 1,
+                column: at + 1,
+            });
         }
         at += 1;
     }
@@ -52,7 +58,9 @@ pub fn read_pairs(pairs: &[u8], into: &mut [u8]) -> Result<usize, ListingFault>
 {
     let count = count_pairs(pairs)?;
     if into.len() < count {
-        return Err(ListingFault::TextShort { needed: count as u128 });
+        return Err(ListingFault::TextShort {
+            needed: count as u128,
+        });
     }
     copy_values(pairs, count, into);
     Ok(count)

@@ -21,7 +21,11 @@ fn glyph(value: u8) -> u8
     requires { ⌜ value < 16 ⌝ }
     ensures { λ r. ⌜ r ≡ hex value ⌝ }
 {
-    if value < 10 { b'0' + value } else { b'A' - 10 + value }
+    if value < 10 {
+        b'0' + value
+    } else {
+        b'A' - 10 + value
+    }
 }
 
 // Writes the pair of a byte from `at` on, and gives the place after it.

@@ -19,6 +19,9 @@ use crate::item::Item;
 use crate::item::Line;
 use crate::item::Placed;
 
+// A count of no bytes is not written.
+const LEAST_COUNT: u8 = 1;
+
 // What is left of a text, and the number of its first line.
 #[derive(Drop)]
 pub struct Reader<'a> {
@@ -33,7 +36,10 @@ impl<'a> Reader<'a> {
         ensures rest { λ r. ⌜ r .rest .now ≡ now (text .entry) ⌝ }
         ensures line { λ r. ⌜ r .line ≡ 1 ⌝ }
     {
-        Reader { rest: text, line: 1 }
+        Reader {
+            rest: text,
+            line: 1,
+        }
     }
 
     // The refusal of a line that cannot go on after `at` bytes.
@@ -41,7 +47,10 @@ impl<'a> Reader<'a> {
         requires { ⌜ at < 2 ^ 64 - 1 ⌝ }
         ensures { λ r. ⌜ r ≡ Malformed (now (self .entry) .line) (at + 1) ⌝ }
     {
-        ListingFault::Malformed { line: self.line, column: at + 1 }
+        ListingFault::Malformed {
+            line: self.line,
+            column: at + 1,
+        }
     }
 
     // The note at the start of the rest.
@@ -78,21 +87,21 @@ impl<'a> Reader<'a> {
         }
     }
 
-    // The count after the ` >` that ends before `at`.
-    fn count(&self, at: usize) -> Result<Extent, ListingFault>
-        requires { ⌜ at ≤ length (now self .rest .now) + 1 ⌝ ∗ ⌜ 2 ≤ at ⌝ }
-        ensures same { λ r. ⌜ r ≡ refused (now (self .entry) .line) (atMark at (drop at (now (self .entry) .rest .now))) ⌝ }
+    // The count after a `>`, with `gap` the place where a space has to stand.
+    fn count(&self, gap: usize) -> Result<Extent, ListingFault>
+        requires { ⌜ gap ≤ length (now self .rest .now) + 1 ⌝ ∗ ⌜ 2 ≤ gap ⌝ }
+        ensures same { λ r. ⌜ r ≡ refused (now (self .entry) .line) (atMark gap (drop gap (now (self .entry) .rest .now))) ⌝ }
         ensures within { λ r. ⌜ Cases r (λ x. Sized x (length (now (self .entry) .rest .now))) (λ _. Unit {0}) ⌝ }
     {
         let rest = self.rest;
-        if byte_at(rest, at) != b' ' {
-            return Err(self.stuck(at));
+        if byte_at(rest, gap) != b' ' {
+            return Err(self.stuck(gap));
         }
-        let digits = at + 1;
+        let digits = gap + 1;
         let Some(wanted) = pair(rest, digits) else {
             return Err(self.stuck(digits));
         };
-        if wanted == 0 {
+        if wanted < LEAST_COUNT {
             return Err(self.stuck(digits));
         }
         let end = digits + 2;
@@ -119,13 +128,21 @@ impl<'a> Reader<'a> {
         ensures same { λ r. ⌜ r ≡ refused (now (self .entry) .line) (scan (now (self .entry) .rest .now)) ⌝ }
         ensures within { λ r. ⌜ Cases r (λ x. Sized x (length (now (self .entry) .rest .now))) (λ _. Unit {0}) ⌝ }
     {
-        if byte_at(self.rest, 0) == b';' { self.note() } else { self.frame() }
+        if byte_at(self.rest, 0) == b';' {
+            self.note()
+        } else {
+            self.frame()
+        }
     }
 
     fn placed(&self, item: Item<'a>, column: usize) -> Placed<'a>
         ensures { λ r. ⌜ spotOf r ≡ spot (partOf (item .entry)) (now (self .entry) .line) column ⌝ }
     {
-        Placed { item, line: self.line, column }
+        Placed {
+            item,
+            line: self.line,
+            column,
+        }
     }
 
     // The items of the line at the start of the rest.
@@ -135,8 +152,14 @@ impl<'a> Reader<'a> {
     {
         let rest = self.rest;
         match extent {
-            Extent::Note(end) => Line { first: self.placed(Item::Note(&rest[0..end]), 1), count: None },
-            Extent::Frame(end) => Line { first: self.placed(Item::Frame(&rest[0..end]), 1), count: None },
+            Extent::Note(end) => Line {
+                first: self.placed(Item::Note(&rest[0..end]), 1),
+                count: None,
+            },
+            Extent::Frame(end) => Line {
+                first: self.placed(Item::Frame(&rest[0..end]), 1),
+                count: None,
+            },
             Extent::Counted(end) => Line {
                 first: self.placed(Item::Frame(&rest[0..end - 5]), 1),
                 count: Some(self.placed(Item::Count(&rest[end - 2..end]), end - 1)),

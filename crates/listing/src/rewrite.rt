@@ -4,9 +4,9 @@ ghost use Prim.Native.Nat.{ℕ, _+_, _<_, _≤_, _^_};
 ghost use lib.ListN.{length};
 ghost use Rattle.std.specs.Results.{Cases};
 ghost use Rattle.listing.specs.Grammar.{Unambiguous};
-ghost use Rattle.listing.specs.Parts.{spotsOf, countOf};
+ghost use Rattle.listing.specs.Parts.{partOf, spotsOf, countOf};
 ghost use Rattle.listing.specs.Promise.{Measured, Refuses, Fits, Copied, Rewrites};
-ghost use Rattle.listing.specs.Writing.{laid, keptOf, keptCount};
+ghost use Rattle.listing.specs.Writing.{laid, held, frameText, keptOf, keptCount};
 use crate::fault::ListingFault;
 use crate::item::Item;
 use crate::item::Line;
@@ -24,12 +24,22 @@ fn count_len(count: Option<Placed>) -> usize
     }
 }
 
+// The pairs of a frame, and nothing of another item.
+fn kept<'a>(item: Item<'a>) -> Option<&'a [u8]>
+    ensures { λ r. ⌜ held r ≡ frameText (partOf (item .entry)) ⌝ }
+{
+    match item {
+        Item::Frame(pairs) => Some(pairs),
+        Item::Note(_) | Item::Count(_) => None,
+    }
+}
+
 // The length of what is kept of a line, 0Ah included: nothing of a note.
 fn kept_len(line: Line) -> usize
     requires { ⌜ length (keptOf (spotsOf line)) < 2 ^ 64 ⌝ }
     ensures { λ r. ⌜ r ≡ length (keptOf (spotsOf (line .entry))) ⌝ }
 {
-    let Item::Frame(pairs) = line.first.item else {
+    let Some(pairs) = kept(line.first.item) else {
         return 0;
     };
     pairs.len() + count_len(line.count)
@@ -55,7 +65,7 @@ fn keep(line: Line, into: &mut [u8], at: usize) -> usize
     ensures place { λ r. ⌜ r ≡ at + length (keptOf (spotsOf (line .entry))) ⌝ }
     ensures buffer { λ _. ⌜ now (into .exit) ≡ laid at (keptOf (spotsOf (line .entry))) (now (into .entry)) ⌝ }
 {
-    let Item::Frame(pairs) = line.first.item else {
+    let Some(pairs) = kept(line.first.item) else {
         return at;
     };
     let end = put(into, at, pairs);
@@ -100,7 +110,9 @@ pub fn rewrite(text: &[u8], into: &mut [u8]) -> Result<usize, ListingFault>
 {
     let needed = rewritten_len(text)?;
     if into.len() < needed {
-        return Err(ListingFault::TextShort { needed: needed as u128 });
+        return Err(ListingFault::TextShort {
+            needed: needed as u128,
+        });
     }
     copy_kept(text, into);
     Ok(needed)

@@ -28,11 +28,11 @@ loop-count-again c =
     let t = c .args .pairs .now in
     let w = c .in-Some .ensures tt .within in
     let l : c .loop-count .at + 2 < length t = omega arith in
-    let h : c .loop-count .at + 3 ≡ c .loop-count .at + 2 + 1 = omega arith in
-    ( c .loop-count .inv .0
-      ∙ ap (tallied (c .loop-count .count)) (values-more t (c .loop-count .at) (c .in-Some .field-0) (sym (c .in-Some .ensures tt .value)) l (c .if-pairs-at-ne32 .left))
-      ∙ tallied-before (c .loop-count .count) (c .in-Some .field-0) (values (c .loop-count .at + 3) (drop (c .loop-count .at + 3) t))
-      ∙ ap (λ n. tallied (c .loop-count .count + 1) (values n (drop n t))) h
-    , omega arith
-    , omega arith
+    let h : c .loop-count .at + 3 ≡ c .loop-count .at + 2 + 1 = omega arith in (
+      c .loop-count .inv .0
+          ∙ ap (tallied (c .loop-count .count)) (values-more t (c .loop-count .at) (c .in-Some .field-0) (sym (c .in-Some .ensures tt .value)) l (c .if-pairs-at-ne32 .left))
+          ∙ tallied-before (c .loop-count .count) (c .in-Some .field-0) (values (c .loop-count .at + 3) (drop (c .loop-count .at + 3) t))
+          ∙ ap (λ n. tallied (c .loop-count .count + 1) (values n (drop n t))) h,
+      omega arith,
+      omega arith,
     )

@@ -12,13 +12,13 @@ unfolding spacedText
 loop-byte-holds c = (sym (laid-none (c .args .at) (c .args .into .now)), omega arith)
 
 pub loop-byte-again : need.loop-byte-again
-loop-byte-again c =
-    ( spaced-turn (c .args .at) (c .loop-byte .place) (c .put-place .result) (c .loop-byte .byte-index) (c .args .bytes .now)
+loop-byte-again c = (
+  spaced-turn (c .args .at) (c .loop-byte .place) (c .put-place .result) (c .loop-byte .byte-index) (c .args .bytes .now)
       (c .args .into .now) (c .loop-byte .into) (c .put-place .last .into) (c .put-pair-place .last .into)
       (c .loop-byte-test .taken) (c .pre) (c .loop-byte .inv .0) (c .loop-byte .inv .1)
-      (c .put-place .ensures .buffer) (c .put-place .ensures .place) (c .put-pair-place .ensures .buffer)
-    , omega arith
-    )
+      (c .put-place .ensures .buffer) (c .put-place .ensures .place) (c .put-pair-place .ensures .buffer),
+  omega arith,
+)
 
 pub returns : need.returns
 returns c =

@@ -21,11 +21,11 @@ returns c =
     let w = c .text .result .now in
     let e = count-kept (c .args .count) (c .in-Some .count) w (c .in-Some .is) (c .text .ensures) in
     let k = ap length e ∙ count-size w in
-    record
-    { place = omega arith
-    ; buffer =
-      count-laid (c .args .at) (c .put-digits .result) (c .put-end .result) w (c .args .into .now)
-      (c .put-digits .last .into) (c .put-end .last .into) (c .put-2 .last .into)
-      (c .put-digits .ensures .buffer) (c .put-digits .ensures .place) (c .put-end .ensures .buffer) (c .put-end .ensures .place) (c .put-2 .ensures .buffer) (omega arith)
-      ∙ ap (λ y. laid (c .args .at) y (c .args .into .now)) (sym e)
+    record {
+      place = omega arith;
+      buffer =
+          count-laid (c .args .at) (c .put-digits .result) (c .put-end .result) w (c .args .into .now)
+          (c .put-digits .last .into) (c .put-end .last .into) (c .put-2 .last .into)
+          (c .put-digits .ensures .buffer) (c .put-digits .ensures .place) (c .put-end .ensures .buffer) (c .put-end .ensures .place) (c .put-2 .ensures .buffer) (omega arith)
+          ∙ ap (λ y. laid (c .args .at) y (c .args .into .now)) (sym e);
     }

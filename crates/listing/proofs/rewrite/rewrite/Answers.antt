@@ -9,13 +9,13 @@ pub returns : need.returns
 returns c =
     let m = c .in-Continue-needed .ensures tt .measured in
     let a = reads-again 1 (m .reads) refl in
-    record
-    { items = m .items
-    ; exchanges = m .exchanges
-    ; reads = m .reads
-    ; size = m .size
-    ; buffer = c .copy-kept .ensures (m .items) (m .exchanges) (m .reads) ∙ ap (λ n. listing (m .exchanges) ++ drop n (c .args .into .now)) (sym (m .size))
-    ; same = λ h. same-text (m .reads) refl h
-    ; items-again = a .0
-    ; again = a .1
+    record {
+      items = m .items;
+      exchanges = m .exchanges;
+      reads = m .reads;
+      size = m .size;
+      buffer = c .copy-kept .ensures (m .items) (m .exchanges) (m .reads) ∙ ap (λ n. listing (m .exchanges) ++ drop n (c .args .into .now)) (sym (m .size));
+      same = λ h. same-text (m .reads) refl h;
+      items-again = a .0;
+      again = a .1;
     }

@@ -15,10 +15,10 @@ returns-then-into-needed c =
     let l = c .args .into .now in
     let w = lineText (exchangeOf f) in
     let h : length l < length w = omega arith in
-    record
-    { answer = ap (λ n. Err (TextShort n)) (c .line-len-needed .ensures) ∙ sym (fitted-short w (length l) h)
-    ; buffer = sym (over-short w l h)
-    ; reads = frame-reads (f .code) (f .back) (f .rest .now)
+    record {
+      answer = ap (λ n. Err (TextShort n)) (c .line-len-needed .ensures) ∙ sym (fitted-short w (length l) h);
+      buffer = sym (over-short w l h);
+      reads = frame-reads (f .code) (f .back) (f .rest .now);
     }
 
 pub put-pair-at-requires : need.put-pair-at-requires
@@ -42,14 +42,14 @@ returns c =
     let h : length w ≤ length l = omega arith in
     let n : c .put .result ≡ length w = omega arith in
     let b =
-        line-laid (c .put-pair-at .result) (c .put-spaced-at .result) (c .put-back-at .result) (f .code) (f .back) (f .rest .now)
-        l (c .put-pair-at .last .into) (c .put-spaced-at .last .into) (c .put-back-at .last .into) (c .put .last .into) h
-        (c .put-pair-at .ensures .buffer) (c .put-pair-at .ensures .place)
-        (c .put-spaced-at .ensures .buffer) (c .put-spaced-at .ensures .place)
-        (c .put-back-at .ensures .buffer) (c .put-back-at .ensures .place)
-        (c .put .ensures .buffer) in
-    record
-    { answer = ap (λ n. Ok n) n ∙ sym (fitted-fits w (length l) h)
-    ; buffer = b ∙ sym (over-fits w l h)
-    ; reads = frame-reads (f .code) (f .back) (f .rest .now)
+    line-laid (c .put-pair-at .result) (c .put-spaced-at .result) (c .put-back-at .result) (f .code) (f .back) (f .rest .now)
+    l (c .put-pair-at .last .into) (c .put-spaced-at .last .into) (c .put-back-at .last .into) (c .put .last .into) h
+    (c .put-pair-at .ensures .buffer) (c .put-pair-at .ensures .place)
+    (c .put-spaced-at .ensures .buffer) (c .put-spaced-at .ensures .place)
+    (c .put-back-at .ensures .buffer) (c .put-back-at .ensures .place)
+    (c .put .ensures .buffer) in
+    record {
+      answer = ap (λ n. Ok n) n ∙ sym (fitted-fits w (length l) h);
+      buffer = b ∙ sym (over-fits w l h);
+      reads = frame-reads (f .code) (f .back) (f .rest .now);
     }

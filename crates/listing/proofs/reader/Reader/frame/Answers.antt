@@ -12,18 +12,18 @@ returns-in-10 c =
     let t = c .args .self .now .rest .now in
     let p = c .in-Continue-end .ensures tt in
     let w : 0 < c .byte-at .result = omega arith in
-    record
-    { same = sym (ap (refused (c .args .self .now .line)) (p .0 ∙ closing-end t (c .in-Continue-end .end) (sym (c .byte-at .ensures .value) ∙ c .in-10 .is)))
-    ; within = c .byte-at .ensures .within w
+    record {
+      same = sym (ap (refused (c .args .self .now .line)) (p .0 ∙ closing-end t (c .in-Continue-end .end) (sym (c .byte-at .ensures .value) ∙ c .in-10 .is)));
+      within = c .byte-at .ensures .within w;
     }
 
 pub returns-in-32 : need.returns-in-32
 returns-in-32 c =
     let t = c .args .self .now .rest .now in
     let p = c .in-Continue-end .ensures tt in
-    record
-    { same = c .count .ensures .same ∙ sym (ap (refused (c .args .self .now .line)) (p .0 ∙ closing-space t (c .in-Continue-end .end) (sym (c .byte-at .ensures .value) ∙ c .in-32 .is)))
-    ; within = c .count .ensures .within
+    record {
+      same = c .count .ensures .same ∙ sym (ap (refused (c .args .self .now .line)) (p .0 ∙ closing-space t (c .in-Continue-end .end) (sym (c .byte-at .ensures .value) ∙ c .in-32 .is)));
+      within = c .count .ensures .within;
     }
 
 pub returns-in-rest : need.returns-in-rest

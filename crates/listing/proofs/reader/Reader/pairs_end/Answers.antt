@@ -16,19 +16,19 @@ returns-in-rest c =
 pub returns-then-not-goes-on : need.returns-then-not-goes-on
 returns-then-not-goes-on c =
     let t = c .args .self .now .rest .now in
-    let w = c .in-Some .ensures tt .within in
-    ( c .loop-at .inv .0 ∙ pairs-off t (c .loop-at .at) (c .in-Some .field-0) (sym (c .in-Some .ensures tt .value)) (sym (c .if-not-goes-on .ensures tt .value))
-    , omega arith
-    , omega arith
+    let w = c .in-Some .ensures tt .within in (
+      c .loop-at .inv .0 ∙ pairs-off t (c .loop-at .at) (c .in-Some .field-0) (sym (c .in-Some .ensures tt .value)) (sym (c .if-not-goes-on .ensures tt .value)),
+      omega arith,
+      omega arith,
     )
 
 pub loop-at-again : need.loop-at-again
 loop-at-again c =
     let t = c .args .self .now .rest .now in
     let w = c .if-not-goes-on .ensures tt .within refl in
-    let h : c .loop-at .at + 3 ≡ c .loop-at .at + 2 + 1 = omega arith in
-    ( c .loop-at .inv .0
-      ∙ pairs-on t (c .loop-at .at) (c .in-Some .field-0) (sym (c .in-Some .ensures tt .value)) (sym (c .if-not-goes-on .ensures tt .value))
-      ∙ ap (λ n. pairs n (drop n t)) h
-    , omega arith
+    let h : c .loop-at .at + 3 ≡ c .loop-at .at + 2 + 1 = omega arith in (
+      c .loop-at .inv .0
+          ∙ pairs-on t (c .loop-at .at) (c .in-Some .field-0) (sym (c .in-Some .ensures tt .value)) (sym (c .if-not-goes-on .ensures tt .value))
+          ∙ ap (λ n. pairs n (drop n t)) h,
+      omega arith,
     )
