@@ -28,16 +28,19 @@ fn replay(
     heap: Global,
     text: &[u8],
     chip: &mut BenchChip,
-    out: &mut String,
+    out: &mut Vec<u8>,
 ) -> Result<(), AllocError> {
+    // a frame's byte takes two digits and a space
+    let mut room = vec![in heap; 0u8; text.len() / 3 + 1]?;
     let mut reader = Reader::new(text);
     // a line has a byte at least
     for _ in 0..text.len() {
         match reader.next_line() {
             Ok(None) => break,
-            Ok(Some(line)) => play(heap, chip, &line, out)?,
+            Ok(Some(line)) => play(chip, line, &mut room, out)?,
             Err(ListingFault::Malformed { line, column }) => {
-                write!(out, "E12 {line} {column}\n")?;
+                let text = format!(heap, "E12 {line} {column}\n")?;
+                out.extend_from_slice(text.as_bytes())?;
                 break;
             }
             Err(ListingFault::TextShort { needed: _ }) => break,
@@ -54,8 +57,8 @@ fn main(rt: LibcRuntime) -> Result<(), AnyError> {
     let Ok(mut chip) = BenchChip::new(CAPACITY, image, STATUS, BUSY) else {
         return Err("the bench chip cannot be made".into());
     };
-    let mut out = String::new(heap);
+    let mut out = Vec::new(heap);
     replay(heap, &text, &mut chip, &mut out)?;
-    rt.stdout().write_all(out.as_bytes())?;
+    rt.stdout().write_all(&out)?;
     Ok(())
 }

@@ -1,0 +1,12 @@
+pub mod Drops
+pub mod Turns
+pub mod Digits
+pub mod Sound
+pub mod Lined
+pub mod Complete
+pub mod Spelling
+pub mod Single
+pub mod Laying
+pub mod Answering
+pub mod Keeping
+pub mod Progress
