@@ -45,8 +45,8 @@ pub record Measured (t : List ℕ) (n : ℕ) : Type 0 where
   pub size : n ≡ length (listing exchanges)
 
 -- the lines of a text that reads to its end fit a buffer of n bytes
-abbrev pub Fits : List ℕ → ℕ → Type 0
-Fits t n = ((m : ℕ) × Measured t m × (m ≤ n))
+abbrev pub HasRoom : List ℕ → ℕ → Type 0
+HasRoom t n = ((m : ℕ) × Measured t m × (m ≤ n))
 
 -- they are written over the start of the buffer
 abbrev pub Copied : List ℕ → List ℕ → List ℕ → Type 0

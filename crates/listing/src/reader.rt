@@ -19,7 +19,7 @@ use crate::item::Item;
 use crate::item::Line;
 use crate::item::Placed;
 
-// A count of no bytes is not written.
+// The least number of bytes that a line may want back.
 const LEAST_COUNT: u8 = 1;
 
 // What is left of a text, and the number of its first line.
@@ -124,6 +124,7 @@ impl<'a> Reader<'a> {
         }
     }
 
+    // What the line at the start of the rest holds.
     fn extent(&self) -> Result<Extent, ListingFault>
         ensures same { λ r. ⌜ r ≡ refused (now (self .entry) .line) (scan (now (self .entry) .rest .now)) ⌝ }
         ensures within { λ r. ⌜ Cases r (λ x. Sized x (length (now (self .entry) .rest .now))) (λ _. Unit {0}) ⌝ }
@@ -135,6 +136,7 @@ impl<'a> Reader<'a> {
         }
     }
 
+    // An item of this line.
     fn placed(&self, item: Item<'a>, column: usize) -> Placed<'a>
         ensures { λ r. ⌜ spotOf r ≡ spot (partOf (item .entry)) (now (self .entry) .line) column ⌝ }
     {

@@ -5,7 +5,7 @@ ghost use lib.ListN.{length};
 ghost use Rattle.std.specs.Results.{Cases};
 ghost use Rattle.listing.specs.Grammar.{Unambiguous};
 ghost use Rattle.listing.specs.Parts.{partOf, spotsOf, countOf};
-ghost use Rattle.listing.specs.Promise.{Measured, Refuses, Fits, Copied, Rewrites};
+ghost use Rattle.listing.specs.Promise.{Measured, Refuses, HasRoom, Copied, Rewrites};
 ghost use Rattle.listing.specs.Writing.{laid, held, frameText, keptOf, keptCount};
 use crate::fault::ListingFault;
 use crate::item::Item;
@@ -87,7 +87,7 @@ pub fn rewritten_len(text: &[u8]) -> Result<usize, ListingFault>
 
 // Writes the kept lines of a listing that reads to its end and fits.
 fn copy_kept(text: &[u8], into: &mut [u8])
-    requires { ⌜ Fits (now text) (length (now into)) ⌝ }
+    requires { ⌜ HasRoom (now text) (length (now into)) ⌝ }
     ensures { λ _. ⌜ Copied (now (text .entry)) (now (into .entry)) (now (into .exit)) ⌝ }
 {
     let mut reader = Reader::new(text);

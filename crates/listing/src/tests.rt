@@ -3,6 +3,7 @@ use crate::fault::ListingFault;
 use crate::fault::ListingFaultDebug;
 use crate::fault::ListingFaultPartialEq;
 use crate::item::Item;
+use crate::item::Line;
 use crate::pairs::read_pairs;
 use crate::reader::Reader;
 use crate::rewrite::rewrite;
@@ -44,15 +45,17 @@ fn a_line_gives_its_items() -> Result<(), Fail> {
     let Some(line) = reader.next_line()? else {
         return Err(Fail::new("no second line"));
     };
-    check_eq((line.first.line, line.first.column), (2, 1))?;
+    let Line { first, count } = line;
     let mut bytes = [0; 2];
-    check_eq(read_pairs(line.first.item.text(), &mut bytes)?, 1)?;
+    check_eq(read_pairs(first.item.text(), &mut bytes)?, 1)?;
     check_eq(bytes, [0x9F, 0])?;
-    let Some(count) = line.count else {
+    let Some(count) = count else {
         return Err(Fail::new("no count"));
     };
     check_eq((count.line, count.column), (2, 6))?;
-    check(matches!(count.item, Item::Count(b"03")))?;
+    check(matches!(count.item, Item::Count(_)))?;
+    check_eq(read_pairs(count.item.text(), &mut bytes)?, 1)?;
+    check_eq(bytes, [3, 0])?;
     check(reader.next_line()?.is_none())
 }
 
