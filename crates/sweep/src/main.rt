@@ -1,0 +1,77 @@
+// Erases a 128Mb bench chip and reads all of it, frame by frame: a measure of the simulated chip's speed.
+use port::bench::BenchChip;
+use port::bench_port::BenchPort;
+use port::fault::PortFault;
+use port::port::Port;
+use std::error::AnyError;
+
+const CAPACITY: u8 = 0x18;
+
+const BYTES: usize = 16777216;
+
+const STATUS: u8 = 0x80;
+
+const WRITE_ENABLE: [u8; 1] = [0x06];
+
+const BULK_ERASE: [u8; 1] = [0xC7];
+
+const READ: u8 = 0x03;
+
+// What fits a frame of 320 bytes beside a code and an address.
+const CHUNK: usize = 316;
+
+const FRAMES: usize = BYTES / CHUNK + 1;
+
+fn count_blank(bytes: &[u8]) -> usize {
+    let mut blank: usize = 0;
+    for b in bytes {
+        if *b == 0xFF {
+            blank = blank.saturating_add(1);
+        }
+    }
+    blank
+}
+
+// How many bytes of one frame's worth are FFh.
+fn read_chunk(chip: &mut BenchChip, start: usize) -> Result<usize, PortFault> {
+    if start >= BYTES {
+        return Ok(0);
+    }
+    let head = [
+        READ,
+        (start / 65536) as u8,
+        (start / 256 % 256) as u8,
+        (start % 256) as u8,
+    ];
+    let mut bytes = [0u8; CHUNK];
+    let back = &mut bytes[0..(BYTES - start).min(CHUNK)];
+    chip.exchange(&head, back)?;
+    Ok(count_blank(back))
+}
+
+// How many of the chip's bytes are FFh.
+fn sweep(chip: &mut BenchChip) -> Result<usize, PortFault> {
+    let mut blank: usize = 0;
+    for i in 0..FRAMES {
+        blank = blank.saturating_add(read_chunk(chip, i * CHUNK)?);
+    }
+    Ok(blank)
+}
+
+fn erased(chip: &mut BenchChip) -> Result<usize, PortFault> {
+    chip.exchange(&WRITE_ENABLE, &mut [])?;
+    chip.exchange(&BULK_ERASE, &mut [])?;
+    sweep(chip)
+}
+
+fn main(rt: LibcRuntime) -> Result<(), AnyError> {
+    let image = vec![in rt.alloc(); 0; BYTES]?;
+    let Ok(mut chip) = BenchChip::new(CAPACITY, image, STATUS, 0) else {
+        return Err("the chip cannot be made".into());
+    };
+    let Ok(blank) = erased(&mut chip) else {
+        return Err("a frame was too long".into());
+    };
+    println!(rt, "{blank} bytes are FFh, read in {FRAMES} frames")?;
+    Ok(())
+}
