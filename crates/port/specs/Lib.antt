@@ -4,3 +4,4 @@ pub mod Machine
 pub mod Rows
 pub mod Bench
 pub mod Bus
+pub mod Build
