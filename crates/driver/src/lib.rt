@@ -1,0 +1,7 @@
+// A part made of a port: attaching to the chip behind it, and the frames that each call sends.
+mod ask;
+mod cycle;
+pub mod driver;
+pub mod driver_part;
+mod poll;
+mod read;
