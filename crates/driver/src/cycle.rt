@@ -6,8 +6,8 @@ ghost use Prim.Native.Nat.{_+_, _-_, _*_, _/_, _≤_};
 ghost use lib.ListN.{length};
 ghost use Rattle.memory.specs.Page.{blank, page};
 ghost use Rattle.port.specs.Machine.{after};
-ghost use Rattle.part.specs.Verdict.{presets};
-ghost use Rattle.driver.specs.Frames.{Sendable, cycleFrame, enableFrame, looks, operationOf};
+ghost use Rattle.part.specs.Verdict.{inside, presets};
+ghost use Rattle.driver.specs.Frames.{Sendable, cycleFrame, enableFrame, largest, looks, operationOf};
 use crate::ask::ask;
 use crate::read::read;
 use memory::bytes::is_blank;
@@ -30,7 +30,7 @@ fn operation_of(kind: Kind) -> Operation
 
 // If the page is as a cycle of this kind needs it: a preset looks at its page.
 pub(crate) fn is_clean_for<P: Port>(port: &mut P, kind: Kind, address: usize) -> bool
-    requires { ⌜ Sendable kind address 1 ⌝ }
+    requires { ⌜ inside largest kind address ≡ true ⌝ }
     ensures others { λ r. ⌜ r ≡ presets kind r ⌝ }
     ensures clean { λ r. ⌜ (P·Port .chip (now (port .entry)) .busy ≡ 0 → address / 64 * 64 + 64 ≤ length (P·Port .chip (now (port .entry)) .image) → r ≡ presets kind (blank (page 64 (address / 64) (P·Port .chip (now (port .entry)) .image)))) ⌝ }
     ensures chip { λ _. ⌜ P·Port .chip (now (port .exit)) ≡ P·Port .chip (now (port .entry)) ⌝ }

@@ -1,0 +1,4 @@
+use Rattle.driver.proofs.driver_part.DriverPart.poll.Needs as need
+
+pub returns : need.returns
+returns g c = ?
