@@ -32,6 +32,22 @@ use Rattle.driver.proofs.Hearing.{one-status, status-heard, after-status}
 use Rattle.driver.proofs.Seeing.{seen-outline, seen-image, chip-long}
 use Rattle.driver.proofs.Sending.{sendable, frames-no-status, sent-done, sent-carries, takes-in, looks-carry, looks-no-status}
 
+-- the outline with polls due, or with none
+abbrev pub with-busy : Bool → Outline → Outline
+with-busy b o = record {
+  sectors = o .sectors;
+  pages = o .pages;
+  status = o .status;
+  busy = b;
+  some = o .some;
+  few = o .few;
+  paged = o .paged;
+  low = o .low;
+  small = o .small;
+  steady = o .steady;
+  byte = o .byte;
+}
+
 longer : (a c : Chip) (f : Frame) (fs : List Frame) (ys zs : List Cycle) (k : ℕ) → Carries (after k a f) fs c (ys ++ zs)
     → Carries a (f ∷ fs) c ((carriedOut a (hears a f) ++ ys) ++ zs)
 longer a c f fs ys zs k p =
