@@ -136,3 +136,6 @@ lowered-none c = ap (λ b. record { capacity = c .capacity; image = c .image; st
 pub lowered-more : (i : ℕ) (c d : Chip) → d ≡ lowered i c → waited d ≡ lowered (i + 1) c
 lowered-more i c d e =
     ap waited e ∙ ap (λ b. record { capacity = c .capacity; image = c .image; status = c .status; latch = c .latch; busy = b }) (omega arith)
+
+pub waited-idle : (c : Chip) → c .busy ≡ 0 → waited c ≡ c
+waited-idle c b = ap (λ n. record { capacity = c .capacity; image = c .image; status = c .status; latch = c .latch; busy = n }) (omega arith)

@@ -76,7 +76,7 @@ quiet-in zero room a n c h = none
 quiet-in (suc t) room a n c h = ⊎-elim
     (λ e. subst (Quiet c) (sym (reads-none (suc t) room a n e)) none)
     (λ d. subst (Quiet c) (sym (some t room a n d))
-        (quiet-first c a (min room n) _ (omega arith) (left-over (Quiet c) t room a n none (λ l. quiet-in t room (a + room) (n - room) c (omega arith)))))
+    (quiet-first c a (min room n) _ (omega arith) (left-over (Quiet c) t room a n none (λ l. quiet-in t room (a + room) (n - room) c (omega arith)))))
     (cases-eq n 0)
 
 pub reads-carry : (room a n : ℕ) (c : Chip) → a + n ≤ 16777216 → Carries c (reads room a n) c []
@@ -94,7 +94,7 @@ unpolled-in zero room a n h = refl
 unpolled-in (suc t) room a n h = ⊎-elim
     (λ e. ap statusReads (reads-none (suc t) room a n e))
     (λ d. subst Unpolled (sym (some t room a n d))
-        (unpolled-first a (min room n) _ (omega arith) (left-over Unpolled t room a n refl (λ l. unpolled-in t room (a + room) (n - room) (omega arith)))))
+    (unpolled-first a (min room n) _ (omega arith) (left-over Unpolled t room a n refl (λ l. unpolled-in t room (a + room) (n - room) (omega arith)))))
     (cases-eq n 0)
 
 pub reads-no-status : (room a n : ℕ) → a + n ≤ 16777216 → statusReads (reads room a n) ≡ 0

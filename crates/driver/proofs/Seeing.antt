@@ -35,7 +35,7 @@ byte-padded : (n : ℕ) (l : List ℕ) (i : ℕ) → ((k : ℕ) → getD l k 0 <
 byte-padded n l i b = ⊎-elim
     (λ h. let e = getD-append-left l (replicate n 255) 0 i h in omega (arith, b i))
     (λ h. let e = getD-append-right l (replicate n 255) (length l) i 0 refl h in
-        let f = byte-replicate n 255 (i - length l) (omega arith) in omega arith)
+    let f = byte-replicate n 255 (i - length l) (omega arith) in omega arith)
     (cases-lt i (length l))
 
 pub byte-fitted : (n : ℕ) (l : List ℕ) → ((k : ℕ) → getD l k 0 < 256) → (i : ℕ) → getD (fitted n l) i 0 < 256

@@ -115,7 +115,7 @@ module _ (c d : Chip) (kind : Kind) (a : ℕ) (sent : List ℕ) (s : Sendable ki
       ap (λ x. carriedOut x (hears x (cycleFrame kind a sent))) latch
       ∙ ap (carriedOut (latched true c)) (cycle-heard (latched true c) kind a sent s b r) ∙ cond-true _ _ _ t in
       let P : Chip → Type 0 = λ x. Carries c (enableFrame ∷ cycleFrame kind a sent ∷ []) x
-          (carriedOut c (hears c enableFrame) ++ (carriedOut (after 0 c enableFrame) (hears (after 0 c enableFrame) (cycleFrame kind a sent)) ++ [])) in
+      (carriedOut c (hears c enableFrame) ++ (carriedOut (after 0 c enableFrame) (hears (after 0 c enableFrame) (cycleFrame kind a sent)) ++ [])) in
       let Q : List Cycle → Type 0 = λ x. Carries c (enableFrame ∷ cycleFrame kind a sent ∷ []) d x in
       subst Q (ap₂ (λ x y. x ++ (y ++ [])) first second) (subst P (sym e) (step 0 (step (d .busy) none)))
 

@@ -21,7 +21,7 @@ carriedOut c unknown = []
 pub data Carries : Chip → List Frame → Chip → List Cycle → Type 0 where
   none : {c : Chip} → Carries c [] c []
   step : {c d : Chip} {f : Frame} {fs : List Frame} {ys : List Cycle} (k : ℕ)
-    → Carries (after k c f) fs d ys → Carries c (f ∷ fs) d (carriedOut c (hears c f) ++ ys)
+      → Carries (after k c f) fs d ys → Carries c (f ∷ fs) d (carriedOut c (hears c f) ++ ys)
 
 abbrev pub asksStatus : Ask → ℕ
 asksStatus enable = 0

@@ -13,7 +13,13 @@ use port::port::Port;
 const MOST_SENT: usize = 68;
 
 // Sends a frame that the port can carry.
-pub(crate) fn ask<P: Port>(port: &mut P, operation: Operation, address: usize, data: &[u8], back: &mut [u8])
+pub(crate) fn ask<P: Port>(
+    port: &mut P,
+    operation: Operation,
+    address: usize,
+    data: &[u8],
+    back: &mut [u8],
+)
     requires { ⌜ (length (built operation address (now «data»)) ≤ 68) × (length (built operation address (now «data»)) + length (now back) ≤ P·Port .longest (now port)) ⌝ }
     ensures back { λ _. ⌜ now (back .exit) ≡ answer (getD (now (back .exit)) 0 0) (P·Port .chip (now (port .entry))) (frame (built operation address (now («data» .entry))) (length (now (back .entry)))) ⌝ }
     ensures chip { λ _. ⌜ P·Port .chip (now (port .exit)) ≡ after (P·Port .chip (now (port .exit)) .busy) (P·Port .chip (now (port .entry))) (frame (built operation address (now («data» .entry))) (length (now (back .entry)))) ⌝ }

@@ -45,15 +45,15 @@ fn learn<P: Port>(port: &mut P) -> Outline
 pub fn attach<P: Port>(mut port: P, limit: usize) -> Result<Driver<P>, (AttachFault, P)>
     ensures { λ r. ⌜ Cases r
         (λ d. (unattached limit (P·Port .chip port .busy) ≡ None)
-            × Intact (d .outline) (P·Port .chip (d .port))
-            × (d .outline .busy ≡ false)
-            × (P·Port .chip (d .port) ≡ rested (P·Port .chip port))
-            × P·Port .trace port (d .port) (attachFrames (P·Port .chip port .busy)))
+        × Intact (d .outline) (P·Port .chip (d .port))
+        × (d .outline .busy ≡ false)
+        × (P·Port .chip (d .port) ≡ rested (P·Port .chip port))
+        × P·Port .trace port (d .port) (attachFrames (P·Port .chip port .busy)))
         (λ e. (unattached limit (P·Port .chip port .busy) ≡ Some (e .0))
-            × elim (e .0) [
-              | Limit n ↦ e .1 ≡ port
-              | Busy n ↦ (P·Port .chip (e .1) ≡ lowered limit (P·Port .chip port)) × P·Port .trace port (e .1) (replicate limit statusFrame)
-            ]) ⌝ }
+        × elim (e .0) [
+          | Limit n ↦ e .1 ≡ port
+          | Busy n ↦ (P·Port .chip (e .1) ≡ lowered limit (P·Port .chip port)) × P·Port .trace port (e .1) (replicate limit statusFrame)
+        ]) ⌝ }
 {
     if limit == 0 || limit > MOST_POLLS {
         return Err((AttachFault::Limit(limit), port));

@@ -29,8 +29,7 @@ pub loop-made-again : need.loop-made-again
 loop-made-again g c =
     let i = c .loop-made .inv in
     let b = eqb-false _ _ (not-true _ (sym (c .if-not-is-busy .ensures tt .busy))) in
-    let n : g .P·Port .chip (c .loop-made .port) .busy ≡ g .P·Port .chip (c .args .port .now) .busy - c .loop-made .-made = ap (λ (x : Chip). x .busy) (i .1) in
-    (
+    let n : g .P·Port .chip (c .loop-made .port) .busy ≡ g .P·Port .chip (c .args .port .now) .busy - c .loop-made .-made = ap (λ (x : Chip). x .busy) (i .1) in (
       omega arith,
       c .is-busy .ensures .chip ∙ lowered-more (c .loop-made .-made) (g .P·Port .chip (c .args .port .now)) _ (i .1),
       more g _ _ _ (c .loop-made .-made) (i .2) (c .is-busy .ensures .trace),

@@ -54,22 +54,21 @@ loop-done-again g c =
     let y : n - d - m ≡ n - (d + m) = omega arith in
     let frames : (i .3 .0 ++ (readFrame (a + d) m ∷ [])) ++ reads room (a + (d + m)) (n - (d + m)) ≡ reads room a n =
     append-assoc (i .3 .0) (readFrame (a + d) m ∷ []) (reads room (a + (d + m)) (n - (d + m)))
-    ∙ ap (λ z. i .3 .0 ++ z) (sym (more ∙ ap₂ (λ u v. readFrame (a + d) m ∷ reads room u v) x y)) ∙ i .3 .2 in
-    (
+    ∙ ap (λ z. i .3 .0 ++ z) (sym (more ∙ ap₂ (λ u v. readFrame (a + d) m ∷ reads room u v) x y)) ∙ i .3 .2 in (
       omega arith,
       c .ask .ensures .chip ∙ after-read (g .P·Port .chip (c .ask .last .port) .busy) chip (a + d) _ l ∙ i .1,
       c .ask .ensures .longest ∙ i .2,
       (i .3 .0 ++ (readFrame (a + d) m ∷ []), g .P·Port·met .joins _ _ _ _ _ (i .3 .1) t, frames),
       λ b h.
-      let image : List ℕ = g .P·Port .chip (c .args .port .now) .image in
-      let same : chip .image ≡ image = ap (λ (z : Chip). z .image) (i .1) in
-      let idle : chip .busy ≡ 0 = ap (λ (z : Chip). z .busy) (i .1) ∙ b in
-      let long : length (chip .image) ≡ length image = ap length same in
-      let got : back ≡ block (a + d) m image =
-      c .ask .ensures .back ∙ answer-read (getD back 0 0) chip (a + d) _ l idle (omega arith) ∙ rolled-within (chip .image) (a + d) _ (omega arith)
-      ∙ ap₂ (λ u v. block (a + d) u v) p same in
-      let size : length back ≡ m = c .ask .kept .back ∙ p in
-      take-putMid d (d + m - d) into back (d + m) (omega arith) (omega arith) ∙ ap₂ _++_ (i .4 b h) got ∙ block-more a d m image,
+          let image : List ℕ = g .P·Port .chip (c .args .port .now) .image in
+          let same : chip .image ≡ image = ap (λ (z : Chip). z .image) (i .1) in
+          let idle : chip .busy ≡ 0 = ap (λ (z : Chip). z .busy) (i .1) ∙ b in
+          let long : length (chip .image) ≡ length image = ap length same in
+          let got : back ≡ block (a + d) m image =
+          c .ask .ensures .back ∙ answer-read (getD back 0 0) chip (a + d) _ l idle (omega arith) ∙ rolled-within (chip .image) (a + d) _ (omega arith)
+          ∙ ap₂ (λ u v. block (a + d) u v) p same in
+          let size : length back ≡ m = c .ask .kept .back ∙ p in
+          take-putMid d (d + m - d) into back (d + m) (omega arith) (omega arith) ∙ ap₂ _++_ (i .4 b h) got ∙ block-more a d m image,
     )
 
 pub returns : need.returns

@@ -13,9 +13,9 @@ Inv-loop-done g l =
     × (g .P·Port .chip (l .port) ≡ g .P·Port .chip (l .entry .port))
     × (g .P·Port .longest (l .port) ≡ g .P·Port .longest (l .entry .port))
     × ((fs : List Frame) × g .P·Port .trace (l .entry .port) (l .port) fs
-        × (fs ++ reads (l .room) (l .address + l .done) (length (l .entry .into) - l .done) ≡ reads (l .room) (l .address) (length (l .entry .into))))
+    × (fs ++ reads (l .room) (l .address + l .done) (length (l .entry .into) - l .done) ≡ reads (l .room) (l .address) (length (l .entry .into))))
     × (g .P·Port .chip (l .entry .port) .busy ≡ 0 → l .address + length (l .entry .into) ≤ length (g .P·Port .chip (l .entry .port) .image)
-        → take (l .done) (l .into) ≡ block (l .address) (l .done) (g .P·Port .chip (l .entry .port) .image))
+    → take (l .done) (l .into) ≡ block (l .address) (l .done) (g .P·Port .chip (l .entry .port) .image))
 
 abbrev pub μ-loop-done : given.MeasureT-loop-done
 μ-loop-done g l = length (l .entry .into) - l .done

@@ -61,9 +61,9 @@ returns g c =
       same = ap (seen o) e;
       unread = λ f. absurd (true≢false f);
       bytes = λ i _.
-      let long = chip-long o chip sound i in
-      let idle = i .idle (Rattle.std.proofs.shelf.Tests.not-true _ (within .1)) in
-      c .read .ensures .bytes idle (omega (arith, within .0)) ∙ sym (ap (λ x. block a n x) (seen-image o chip sound i));
+          let long = chip-long o chip sound i in
+          let idle = i .idle (Rattle.std.proofs.shelf.Tests.not-true _ (within .1)) in
+          c .read .ensures .bytes idle (omega (arith, within .0)) ∙ sym (ap (λ x. block a n x) (seen-image o chip sound i));
       trace = (reads room a n, c .read .ensures .trace, d);
       intact = d .intact;
     }
