@@ -26,8 +26,8 @@ use Rattle.part.specs.Outline.{outlined, guards, guarding}
 use Rattle.part.specs.Verdict.{inside, fills, permits, presets, idle}
 use Rattle.part.proofs.Refusals.{reaches-in}
 use Rattle.driver.specs.Frames.{Sendable, statusFrame, enableFrame, cycleFrame, looks}
-use Rattle.driver.specs.Carries.{Carries, none, step, statusReads, asksStatus, carriedOut}
-use Rattle.driver.specs.Driving.{Drives, Intact, seen, fitted}
+use Rattle.driver.specs.Carries.{Carries, Harmless, none, step, statusReads, asksStatus, carriedOut}
+use Rattle.driver.specs.Driving.{Drives, Intact, Quiet, seen, fitted}
 use Rattle.driver.proofs.Hearing.{one-status, status-heard, after-status}
 use Rattle.driver.proofs.Seeing.{seen-outline, seen-image, chip-long}
 use Rattle.driver.proofs.Sending.{sendable, frames-no-status, sent-done, sent-carries, takes-in, looks-carry, looks-no-status}
@@ -73,9 +73,23 @@ pub status-++ : (l m : List Frame) → statusReads (l ++ m) ≡ statusReads l + 
 status-++ [] m = omega arith
 status-++ (f ∷ l) m = let e = status-++ l m in omega arith
 
+harmless-++ : (c : Chip) (fs gs : List Frame) → Harmless c fs → Harmless c gs → Harmless c (fs ++ gs)
+harmless-++ c [] gs p q = q
+harmless-++ c (f ∷ fs) gs p q = (p .0, harmless-++ c fs gs (p .1) q)
+
+quiet-parts : (l m : List Event) → Quiet (l ++ m) → Quiet l × Quiet m
+quiet-parts [] m q = (tt, q)
+quiet-parts (asked n ∷ l) m q = quiet-parts l m q
+quiet-parts (carried y ∷ l) m q = absurd q
+quiet-parts (polled ∷ l) m q = absurd q
+
+both-harmless : (a b c : Chip) (fs gs : List Frame) → (b ≡ a) × Harmless a fs → (c ≡ b) × Harmless b gs → (c ≡ a) × Harmless a (fs ++ gs)
+both-harmless a b c fs gs p q =
+    let P : Chip → Type 0 = λ x. Harmless x gs in (q .0 ∙ p .0, harmless-++ a fs gs (p .1) (subst P (p .0) (q .1)))
+
 -- nothing was done
 pub drives-none : (o : Outline) (c : Chip) → Drives o c [] o c []
-drives-none o c = record { polls = refl; shape = refl; status = refl; carries = λ _. none; intact = λ i. i }
+drives-none o c = record { polls = refl; shape = refl; status = refl; carries = λ _. none; intact = λ i. i; harmless = λ _. (refl, tt) }
 
 pub drives-++ : (o p q : Outline) (a b c : Chip) (fs gs : List Frame) (l m : List Event) → Drives o a fs p b l → Drives p b gs q c m → Drives o a (fs ++ gs) q c (l ++ m)
 drives-++ o p q a b c fs gs l m x y =
@@ -90,11 +104,12 @@ drives-++ o p q a b c fs gs l m x y =
       status = y .status ∙ x .status;
       carries = λ i. subst P (sym (cycles-++ l m)) (carries-++ (x .carries i) (y .carries (x .intact i)));
       intact = λ i. y .intact (x .intact i);
+      harmless = λ n. let q = quiet-parts l m n in both-harmless a b c fs gs (x .harmless (q .0)) (y .harmless (q .1));
     }
 
 -- frames that do nothing, for events that do nothing
-pub drives-quiet : (o : Outline) (c d : Chip) (fs : List Frame) (es : List Event) → d ≡ c → Carries c fs c [] → statusReads fs ≡ 0 → polls es ≡ 0 → cycles es ≡ [] → Drives o c fs o d es
-drives-quiet o c d fs es e q s p y =
+pub drives-quiet : (o : Outline) (c d : Chip) (fs : List Frame) (es : List Event) → d ≡ c → Carries c fs c [] → Harmless c fs → statusReads fs ≡ 0 → polls es ≡ 0 → cycles es ≡ [] → Drives o c fs o d es
+drives-quiet o c d fs es e q h s p y =
     let P : Chip → Type 0 = λ x. Carries c fs x (cycles es) in
     let Q : List Cycle → Type 0 = λ x. Carries c fs c x in
     let I : Chip → Type 0 = λ x. Intact o x in
@@ -104,6 +119,7 @@ drives-quiet o c d fs es e q s p y =
       status = refl;
       carries = λ _. subst P (sym e) (subst Q (sym y) q);
       intact = λ i. subst I (sym e) i;
+      harmless = λ _. (e, h);
     }
 
 -- a poll
@@ -123,6 +139,7 @@ drives-poll o p c d s t b e =
       status = t;
       carries = λ _. subst Q (ap (carriedOut c) (status-heard c)) (subst P (after-status 0 c ∙ sym e) (step 0 none));
       intact = λ i. subst I (sym e) (record { shape = i .shape ∙ sym s; status = i .status ∙ sym t; idle = λ f. still (o .busy) (c .busy) (i .idle) (sym b ∙ f) });
+      harmless = λ q. absurd q;
     }
 
 due-poll : (b : Bool) (n : ℕ) → cond (b && not (eqb n 0)) (n - 1 + 1) 0 ≡ cond b (n + 1) 0 - 1
@@ -188,6 +205,7 @@ module _ (o p : Outline) (c d : Chip) (room : ℕ) (kind : Kind) (a : ℕ) (sent
         status = same-status;
         carries = λ i. carries-++ (looks-carry room kind a c (s .0)) (sent-carries c d kind a sent s (i .idle was-idle) (arrives i) (taken i) e);
         intact = cycle-intact;
+        harmless = λ q. absurd q;
       }
 
   pub cycle-image : of-chip.Sound d → Intact o c → seen p d .image ≡ effect (outlined o) (cycleOf kind a sent) (seen o c .image)

@@ -14,7 +14,7 @@ use Rattle.memory.specs.Cycle.{Cycle}
 use Rattle.port.specs.Chip.{Chip}
 use Rattle.port.specs.Machine.{Frame}
 use Rattle.driver.specs.Frames.{readFrame, readsIn, reads}
-use Rattle.driver.specs.Carries.{Carries, none, step, statusReads}
+use Rattle.driver.specs.Carries.{Carries, Harmless, none, step, statusReads}
 use Rattle.driver.proofs.Hearing.{after-read, carries-read, no-status}
 
 reads-none : (turns room a n : ℕ) → n ≡ 0 → readsIn turns room a n ≡ []
@@ -81,6 +81,20 @@ quiet-in (suc t) room a n c h = ⊎-elim
 
 pub reads-carry : (room a n : ℕ) (c : Chip) → a + n ≤ 16777216 → Carries c (reads room a n) c []
 reads-carry room a n c h = quiet-in n room a n c h
+
+harmless-in : (t room a n : ℕ) (c : Chip) → a + n ≤ 16777216 → Harmless c (readsIn t room a n)
+unfolding readsIn
+harmless-in zero room a n c h = tt
+harmless-in (suc t) room a n c h = ⊎-elim
+    (λ e. subst (Harmless c) (sym (reads-none (suc t) room a n e)) tt)
+    (λ d. subst (Harmless c) (sym (some t room a n d)) (
+      (λ k. after-read k c a (min room n) (omega arith)),
+      left-over (Harmless c) t room a n tt (λ l. harmless-in t room (a + room) (n - room) c (omega arith)),
+    ))
+    (cases-eq n 0)
+
+pub reads-harmless : (room a n : ℕ) (c : Chip) → a + n ≤ 16777216 → Harmless c (reads room a n)
+reads-harmless room a n c h = harmless-in n room a n c h
 
 abbrev Unpolled : List Frame → Type 0
 Unpolled fs = statusReads fs ≡ 0

@@ -26,9 +26,9 @@ use Rattle.part.specs.Outline.{outlined, guards, guarding}
 use Rattle.part.specs.Verdict.{inside, fills, permits, presets}
 use Rattle.part.proofs.Guards.{guard-at, free-guards}
 use Rattle.driver.specs.Frames.{Sendable, largest, operationOf, enableFrame, cycleFrame, looks}
-use Rattle.driver.specs.Carries.{Carries, none, step, statusReads, asksStatus, carriedOut}
+use Rattle.driver.specs.Carries.{Carries, Harmless, none, step, statusReads, asksStatus, carriedOut}
 use Rattle.driver.specs.Driving.{Intact}
-use Rattle.driver.proofs.Reading.{reads-carry, reads-no-status}
+use Rattle.driver.proofs.Reading.{reads-carry, reads-harmless, reads-no-status}
 
 -- what an outline lets pass has an address of three bytes and a page at most
 inside-most : (o : Outline) (a : ℕ) → ltb a (size (outlined o)) ≡ true → ltb a 16777216 ≡ true
@@ -142,6 +142,13 @@ looks-carry room of-kind.Alter a c i = none
 looks-carry room of-kind.Preset a c i = let l = ltb-true _ _ i in reads-carry room (a / 64 * 64) 64 c (omega arith)
 looks-carry room of-kind.SectorErase a c i = none
 looks-carry room of-kind.BulkErase a c i = none
+
+pub looks-harmless : (room : ℕ) (kind : Kind) (a : ℕ) (c : Chip) → inside largest kind a ≡ true → Harmless c (looks room kind a)
+looks-harmless room of-kind.Program a c i = tt
+looks-harmless room of-kind.Alter a c i = tt
+looks-harmless room of-kind.Preset a c i = let l = ltb-true _ _ i in reads-harmless room (a / 64 * 64) 64 c (omega arith)
+looks-harmless room of-kind.SectorErase a c i = tt
+looks-harmless room of-kind.BulkErase a c i = tt
 
 pub looks-no-status : (room : ℕ) (kind : Kind) (a : ℕ) → inside largest kind a ≡ true → statusReads (looks room kind a) ≡ 0
 looks-no-status room of-kind.Program a i = refl

@@ -1,4 +1,5 @@
 -- The cycles that frames carry out on a chip.
+use mathlib.Core.Path.{_≡_}
 use mathlib.Core.Bool.{cond}
 use mathlib.Core.List.{List, [], _∷_, _++_}
 use Prim.Native.Nat.{ℕ, _+_}
@@ -15,6 +16,11 @@ carriedOut c identify = []
 carriedOut c (read address) = []
 carriedOut c (cycle y) = cond (takes c y) (y ∷ []) []
 carriedOut c unknown = []
+
+-- each of the frames leaves the chip as it is
+abbrev pub Harmless : Chip → List Frame → Type 0
+Harmless c [] = Unit {0}
+Harmless c (f ∷ fs) = ((k : ℕ) → after k c f ≡ c) × Harmless c fs
 
 -- frames lead from one chip to another, and carry out these cycles on the way; the busy count that a cycle sets has
 -- no rule, and is the k of its step

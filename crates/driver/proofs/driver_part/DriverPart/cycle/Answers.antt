@@ -18,7 +18,7 @@ use Rattle.part.specs.Verdict.{told, idle, refusal, inside, fills, permits, pre
 use Rattle.part.proofs.Refusals.{Passes, outlines-cycle, refused-early, soiled, done-all, all-passed}
 use Rattle.driver.specs.Frames.{looks, enableFrame, cycleFrame}
 use Rattle.driver.specs.Driving.{Intact, seen}
-use Rattle.driver.proofs.Sending.{sendable, looks-carry, looks-no-status}
+use Rattle.driver.proofs.Sending.{sendable, looks-carry, looks-harmless, looks-no-status}
 use Rattle.driver.proofs.Seeing.{seen-outline, seen-image, chip-long}
 use Rattle.driver.proofs.Driven.{drives-none, drives-quiet, drives-cycle, cycle-image, looked, with-busy}
 use Rattle.driver.proofs.driver_part.DriverPart.cycle.Needs as need
@@ -92,7 +92,7 @@ returns-then-not-is-clean-for g c =
     let s = sendable o kind a n (p .inside) (p .fills) .0 in
     let q = c .if-not-is-clean-for .ensures tt in
     let e = c .is-clean-for .ensures .chip in
-    let d = drives-quiet o chip (g .P·Port .chip (c .is-clean-for .last .port)) (looks room kind a) [] e (looks-carry room kind a chip s) (looks-no-status room kind a s) refl refl in
+    let d = drives-quiet o chip (g .P·Port .chip (c .is-clean-for .last .port)) (looks room kind a) [] e (looks-carry room kind a chip s) (looks-harmless room kind a chip s) (looks-no-status room kind a s) refl refl in
     record {
       result = ap told (sym (soiled (m .shape) (protectedAt m) (idle m) kind a n false v (sym (q .others))));
       verdict = λ i. ap told (sym (soiled (m .shape) (protectedAt m) (idle m) kind a n (cleanAt m a) v (seen-clean o chip kind a false sound i (cleanly o chip kind a n false sound u (q .others) (q .clean) i))));

@@ -14,7 +14,7 @@ use Rattle.part.specs.Verdict.{told, readRefusal}
 use Rattle.part.proofs.Refusals.{outlines-read, read-inside}
 use Rattle.driver.specs.Driving.{Drives, Intact, seen}
 use Rattle.driver.specs.Frames.{reads}
-use Rattle.driver.proofs.Reading.{reads-carry, reads-no-status}
+use Rattle.driver.proofs.Reading.{reads-carry, reads-harmless, reads-no-status}
 use Rattle.driver.proofs.Seeing.{seen-outline, seen-image, chip-long, idle-chip}
 use Rattle.driver.proofs.Driven.{drives-none, drives-quiet}
 use Rattle.driver.proofs.driver_part.DriverPart.read.Needs as need
@@ -55,7 +55,7 @@ returns g c =
     let within = read-inside (outlined o) (not (o .busy)) a n (sym v) in
     let few = small o a n (within .0) in
     let e = c .read .ensures .chip in
-    let d = drives-quiet o chip (g .P·Port .chip (c .read .last .port)) (reads room a n) (asked n ∷ []) e (reads-carry room a n chip few) (reads-no-status room a n few) refl refl in
+    let d = drives-quiet o chip (g .P·Port .chip (c .read .last .port)) (reads room a n) (asked n ∷ []) e (reads-carry room a n chip few) (reads-harmless room a n chip few) (reads-no-status room a n few) refl refl in
     record {
       result = ap told w;
       same = ap (seen o) e;
