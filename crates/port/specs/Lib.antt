@@ -5,3 +5,4 @@ pub mod Rows
 pub mod Bench
 pub mod Bus
 pub mod Laws
+pub mod Build

@@ -51,7 +51,7 @@ pub struct Instruction {
     pub back: Back,
 }
 
-const TABLE: [Instruction; 11] = [
+pub(crate) const TABLE: [Instruction; 11] = [
     Instruction {
         operation: Operation::WriteEnable,
         code: 0x06,

@@ -2,6 +2,7 @@
 // port, and two ports, a simulated chip for the bench and a bus of two.
 pub mod bench;
 pub mod bench_port;
+pub mod build;
 pub mod bus;
 pub mod decode;
 pub mod fault;

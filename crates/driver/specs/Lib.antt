@@ -1,0 +1,4 @@
+pub mod Frames
+pub mod Carries
+pub mod Driving
+pub mod Attach
