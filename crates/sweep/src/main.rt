@@ -1,4 +1,8 @@
-// Erases a 128Mb bench chip and reads all of it, frame by frame: a measure of the simulated chip's speed.
+// Erases a 128Mb bench chip and reads all of it, frame by frame and then through a driver: a measure of speed.
+use driver::attach::attach;
+use driver::driver_part::DriverPart;
+use memory::bytes::is_blank;
+use part::part::Part;
 use port::bench::BenchChip;
 use port::bench_port::BenchPort;
 use port::fault::PortFault;
@@ -73,5 +77,14 @@ fn main(rt: LibcRuntime) -> Result<(), AnyError> {
         return Err("a frame was too long".into());
     };
     println!(rt, "{blank} bytes are FFh, read in {FRAMES} frames")?;
+    let mut bytes = vec![in rt.alloc(); 0; BYTES]?;
+    let Ok(mut part) = attach(chip, 1) else {
+        return Err("the driver does not attach".into());
+    };
+    let Ok(()) = part.read(0, &mut bytes) else {
+        return Err("the driver does not read".into());
+    };
+    let all = is_blank(&bytes);
+    println!(rt, "all FFh through a driver: {all}")?;
     Ok(())
 }
