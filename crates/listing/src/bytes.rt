@@ -7,7 +7,7 @@ ghost use Rattle.std.specs.Options.{Cases as BySome};
 ghost use Rattle.listing.specs.Scan.{digitOf, pairOf, goesOn};
 
 // The byte at `at`. Past the text it is 0, which no line lets stand but in a note.
-pub fn byte_at(text: &[u8], at: usize) -> u8
+pub(crate) fn byte_at(text: &[u8], at: usize) -> u8
     ensures value { λ r. ⌜ r ≡ getD (now (text .entry)) at 0 ⌝ }
     ensures within { λ r. ⌜ (0 < r → at < length (now (text .entry))) ⌝ }
 {
@@ -27,7 +27,7 @@ fn digit(b: u8) -> Option<u8>
 }
 
 // The byte that the pair at `at` spells.
-pub fn pair(text: &[u8], at: usize) -> Option<u8>
+pub(crate) fn pair(text: &[u8], at: usize) -> Option<u8>
     requires { ⌜ at ≤ length (now text) + 2 ⌝ }
     ensures value { λ r. ⌜ r ≡ pairOf (drop at (now (text .entry))) ⌝ }
     ensures within { λ r. ⌜ BySome r (Unit {0}) (λ _. at + 2 ≤ length (now (text .entry))) ⌝ }
@@ -42,7 +42,7 @@ pub fn pair(text: &[u8], at: usize) -> Option<u8>
 }
 
 // Another pair has to follow: there is a space, and no `>` after it.
-pub fn goes_on(text: &[u8], at: usize) -> bool
+pub(crate) fn goes_on(text: &[u8], at: usize) -> bool
     requires { ⌜ at ≤ length (now text) ⌝ }
     ensures value { λ r. ⌜ r ≡ goesOn (drop at (now (text .entry))) ⌝ }
     ensures within { λ r. ⌜ (r ≡ true → at < length (now (text .entry))) ⌝ }

@@ -6,7 +6,7 @@ ghost use Rattle.listing.specs.Hex.{glyph as hex};
 ghost use Rattle.listing.specs.Writing.{laid, pairText, spacedText, backText};
 
 // Writes the bytes from `at` on, and gives the place after them.
-pub fn put(into: &mut [u8], at: usize, bytes: &[u8]) -> usize
+pub(crate) fn put(into: &mut [u8], at: usize, bytes: &[u8]) -> usize
     requires { ⌜ at + length (now bytes) ≤ length (now into) ⌝ }
     ensures place { λ r. ⌜ r ≡ at + length (now (bytes .entry)) ⌝ }
     ensures buffer { λ _. ⌜ now (into .exit) ≡ laid at (now (bytes .entry)) (now (into .entry)) ⌝ }
@@ -29,7 +29,7 @@ fn glyph(value: u8) -> u8
 }
 
 // Writes the pair of a byte from `at` on, and gives the place after it.
-pub fn put_pair(into: &mut [u8], at: usize, byte: u8) -> usize
+pub(crate) fn put_pair(into: &mut [u8], at: usize, byte: u8) -> usize
     requires { ⌜ at + 2 ≤ length (now into) ⌝ }
     ensures place { λ r. ⌜ r ≡ at + 2 ⌝ }
     ensures buffer { λ _. ⌜ now (into .exit) ≡ laid at (pairText byte) (now (into .entry)) ⌝ }
@@ -39,7 +39,7 @@ pub fn put_pair(into: &mut [u8], at: usize, byte: u8) -> usize
 }
 
 // Writes a space and the pair of each byte.
-pub fn put_spaced(into: &mut [u8], at: usize, bytes: &[u8]) -> usize
+pub(crate) fn put_spaced(into: &mut [u8], at: usize, bytes: &[u8]) -> usize
     requires { ⌜ at + 3 * length (now bytes) ≤ length (now into) ⌝ }
     ensures place { λ r. ⌜ r ≡ at + 3 * length (now (bytes .entry)) ⌝ }
     ensures buffer { λ _. ⌜ now (into .exit) ≡ laid at (spacedText (now (bytes .entry))) (now (into .entry)) ⌝ }
@@ -53,7 +53,7 @@ pub fn put_spaced(into: &mut [u8], at: usize, bytes: &[u8]) -> usize
 }
 
 // Writes the count of the bytes wanted back, if there are any.
-pub fn put_back(into: &mut [u8], at: usize, back: u8) -> usize
+pub(crate) fn put_back(into: &mut [u8], at: usize, back: u8) -> usize
     requires { ⌜ at + length (backText back) ≤ length (now into) ⌝ }
     ensures place { λ r. ⌜ r ≡ at + length (backText back) ⌝ }
     ensures buffer { λ _. ⌜ now (into .exit) ≡ laid at (backText back) (now (into .entry)) ⌝ }

@@ -12,7 +12,7 @@ use crate::page::erase;
 use crate::page::write;
 
 // Past the end a cycle does nothing; an erase ignores its data, a bulk erase its address too.
-pub fn carry_out(
+pub(crate) fn carry_out(
     image: &mut [u8],
     sectors: usize,
     pages: usize,

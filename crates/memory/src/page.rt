@@ -13,7 +13,7 @@ use crate::model::PAGE_BYTES;
 type Cover = [Option<u8>; PAGE_BYTES];
 
 // The bytes of a slice are bytes: what a `Vec` that is handed over is known by.
-pub fn are_bytes(bytes: &[u8])
+pub(crate) fn are_bytes(bytes: &[u8])
     requires { ⌜ 0 < length (now bytes) ⌝ }
     ensures { λ _. ⌜ ((i : ℕ) → getD (now (bytes .entry)) i 0 < 256) ⌝ }
 {
@@ -21,7 +21,7 @@ pub fn are_bytes(bytes: &[u8])
 }
 
 // Reads from an address on, rolling over after the last byte.
-pub fn roll(image: &[u8], address: usize, into: &mut [u8])
+pub(crate) fn roll(image: &[u8], address: usize, into: &mut [u8])
     requires { ⌜ 0 < length (now image) ⌝ }
     ensures { λ _. ⌜ now (into .exit) ≡ rolled (now (image .entry)) address (length (now (into .entry))) ⌝ }
 {
@@ -72,7 +72,7 @@ fn merge(kind: Kind, bytes: &mut [u8], sent: &Cover)
 }
 
 // A page cycle on the page that holds the address.
-pub fn write(kind: Kind, image: &mut [u8], address: usize, sent: &[u8])
+pub(crate) fn write(kind: Kind, image: &mut [u8], address: usize, sent: &[u8])
     requires { ⌜ address / 64 * 64 + 64 ≤ length (now image) ⌝ }
     ensures after { λ _. ⌜ now (image .exit) ≡ written (rule kind) 64 address (now (sent .entry)) (now (image .entry)) ⌝ }
     ensures bytes { λ _. ⌜ ((i : ℕ) → getD (now (image .exit)) i 0 < 256) ⌝ }
@@ -82,7 +82,7 @@ pub fn write(kind: Kind, image: &mut [u8], address: usize, sent: &[u8])
     merge(kind, &mut image[start..start + PAGE_BYTES], &cover);
 }
 
-pub fn erase(image: &mut [u8], start: usize, n: usize)
+pub(crate) fn erase(image: &mut [u8], start: usize, n: usize)
     requires { ⌜ start + n ≤ length (now image) ⌝ }
     ensures after { λ _. ⌜ now (image .exit) ≡ put start (replicate n 255) (now (image .entry)) ⌝ }
     ensures bytes { λ _. ⌜ ((i : ℕ) → getD (now (image .exit)) i 0 < 256) ⌝ }

@@ -1,5 +1,15 @@
 // One line of a listing, played on a bench chip.
-ghost use Prim.Native.Nat.{_≤_};
+ghost use mathlib.Core.Path.{_≡_};
+ghost use mathlib.Core.Bool.{cond};
+ghost use mathlib.Core.List.{_++_};
+ghost use Prim.Native.Nat.{_+_, _≤_};
+ghost use lib.Dec.{leb};
+ghost use lib.ListN.{getD, length};
+ghost use Rattle.std.specs.Of.Vec.{vec-items};
+ghost use Rattle.std.specs.Vec.{made};
+ghost use Rattle.port.specs.Bench.{chipOf};
+ghost use Rattle.port.specs.Machine.{after, answer, frame};
+ghost use Rattle.replay.specs.Shown.{lineOf};
 use crate::show::show;
 use listing::item::Item;
 use listing::item::Line;
@@ -7,7 +17,6 @@ use listing::item::Placed;
 use listing::pairs::read_pairs;
 use port::bench::BenchChip;
 use port::bench_port::BenchPort;
-use port::fault::PortFault;
 use port::port::Port;
 use std::alloc::AllocError;
 
@@ -31,8 +40,26 @@ fn wanted(count: Option<Placed>) -> usize
     }
 }
 
-// Sends the frame of a line, and writes what comes back as a line: the bytes, `-` for none, or `E10` where the frame
-// is too long. `room` is for the bytes of the frame. A note does nothing.
+// Sends a frame, and writes what comes back as a line: the bytes, `-` for none, or `E10` where the frame is too long.
+fn play_frame(
+    chip: &mut BenchChip,
+    sent: &[u8],
+    back: &mut [u8],
+    out: &mut Vec<u8>,
+) -> Result<(), AllocError>
+    ensures back { λ _. ⌜ now (back .exit) ≡ cond (leb (length (now (sent .entry)) + length (now (back .entry))) 320) (answer (getD (now (back .exit)) 0 0) (chipOf (now (chip .entry))) (frame (now (sent .entry)) (length (now (back .entry))))) (now (back .entry)) ⌝ }
+    ensures chip { λ _. ⌜ chipOf (now (chip .exit)) ≡ cond (leb (length (now (sent .entry)) + length (now (back .entry))) 320) (after (chipOf (now (chip .exit)) .busy) (chipOf (now (chip .entry))) (frame (now (sent .entry)) (length (now (back .entry))))) (chipOf (now (chip .entry))) ⌝ }
+    ensures out { λ r. ⌜ made r (λ _. vec-items (now (out .exit)) ≡ vec-items (now (out .entry)) ++ lineOf (length (now (sent .entry)) + length (now (back .entry))) (now (back .exit))) ⌝ }
+{
+    match chip.exchange(sent, back) {
+        Ok(()) => show(back, out)?,
+        Err(_) => out.extend_from_slice(b"E10")?,
+    }
+    out.push(b'\n')?;
+    Ok(())
+}
+
+// Plays the frame of a line. `room` is for the bytes of the frame. A note does nothing.
 pub fn play(
     chip: &mut BenchChip,
     line: Line,
@@ -50,11 +77,5 @@ pub fn play(
     }
     let mut bytes = [0u8; MOST_BACK];
     let count = wanted(line.count);
-    let back = &mut bytes[0..count];
-    match chip.exchange(&room[0..n], back) {
-        Ok(()) => show(back, out)?,
-        Err(PortFault::TooLong(_)) => out.extend_from_slice(b"E10")?,
-    }
-    out.push(b'\n')?;
-    Ok(())
+    play_frame(chip, &room[0..n], &mut bytes[0..count], out)
 }
