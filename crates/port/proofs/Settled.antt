@@ -10,7 +10,7 @@ use Rattle.std.proofs.shelf.Bits.{and-mod, and-le-r}
 use Rattle.std.proofs.shelf.Ways.{tells}
 use Rattle.memory.specs.Cycle.{effect}
 use Rattle.port.specs.Chip.{Chip, shape}
-use Rattle.port.specs.Machine.{Ask, enable, disable, status, identify, read, cycle, unknown, reply, shown, act, after, done, takes, Frame, Runs, none, step}
+use Rattle.port.specs.Machine.{Ask, enable, disable, status, identify, read, cycle, unknown, reply, shown, act, after, answer, hears, done, takes, Frame, Runs, none, step}
 
 -- a chip is what its own busy count makes of it
 either : (b : Bool) (k : ℕ) (c : Chip) (l : List ℕ) → cond b (done k c l) c ≡ cond b (done (cond b (done k c l) c .busy) c l) c
@@ -63,3 +63,16 @@ bit1 c unknown n h = refl
 
 pub shows : (c : Chip) (o : Ask) (n : ℕ) (l : List ℕ) → c .status % 4 ≡ 0 → l ≡ reply 0 c o n → l ≡ reply (getD l 0 0) c o n
 shows c o n l h e = let P : List ℕ → Type 0 = λ x. x ≡ reply (getD x 0 0) c o n in subst P (sym e) (bit1 c o n h)
+
+-- the same where a test says if the frame was sent at all
+pub settles-if : (t : Bool) (k : ℕ) (c d : Chip) (f : Frame) → d ≡ cond t (after k c f) c → d ≡ cond t (after (d .busy) c f) c
+settles-if true k c d f e = settles k c d (hears c f) e
+settles-if false k c d f e = e
+
+pub shows-if : (t : Bool) (c : Chip) (f : Frame) (l old : List ℕ) → c .status % 4 ≡ 0 → l ≡ cond t (answer 0 c f) old → l ≡ cond t (answer (getD l 0 0) c f) old
+shows-if true c f l old h e = shows c (hears c f) (f .wanted) l h e
+shows-if false c f l old h e = e
+
+pub runs-if : (t : Bool) (k : ℕ) (c d : Chip) (f : Frame) → d ≡ cond t (after k c f) c → Runs k c (cond t (f ∷ []) []) d
+runs-if true k c d f e = runs-one k c d f e
+runs-if false k c d f e = let P : Chip → Type 0 = λ x. Runs k c [] x in subst P (sym e) none

@@ -4,7 +4,7 @@ ghost use mathlib.Core.Bool.{cond};
 ghost use mathlib.Core.List.{_++_};
 ghost use Prim.Native.Nat.{_+_, _≤_};
 ghost use lib.Dec.{leb};
-ghost use lib.ListN.{getD, length};
+ghost use lib.ListN.{length};
 ghost use Rattle.std.specs.Of.Vec.{vec-items};
 ghost use Rattle.std.specs.Vec.{made};
 ghost use Rattle.port.specs.Bench.{chipOf};
@@ -16,8 +16,6 @@ use listing::item::Line;
 use listing::item::Placed;
 use listing::pairs::read_pairs;
 use port::bench::BenchChip;
-use port::bench_port::BenchPort;
-use port::port::Port;
 use std::alloc::AllocError;
 
 // The most bytes that a count can ask for.
@@ -47,11 +45,11 @@ fn play_frame(
     back: &mut [u8],
     out: &mut Vec<u8>,
 ) -> Result<(), AllocError>
-    ensures back { λ _. ⌜ now (back .exit) ≡ cond (leb (length (now (sent .entry)) + length (now (back .entry))) 320) (answer (getD (now (back .exit)) 0 0) (chipOf (now (chip .entry))) (frame (now (sent .entry)) (length (now (back .entry))))) (now (back .entry)) ⌝ }
-    ensures chip { λ _. ⌜ chipOf (now (chip .exit)) ≡ cond (leb (length (now (sent .entry)) + length (now (back .entry))) 320) (after (chipOf (now (chip .exit)) .busy) (chipOf (now (chip .entry))) (frame (now (sent .entry)) (length (now (back .entry))))) (chipOf (now (chip .entry))) ⌝ }
+    ensures back { λ _. ⌜ now (back .exit) ≡ cond (leb (length (now (sent .entry)) + length (now (back .entry))) 320) (answer 0 (chipOf (now (chip .entry))) (frame (now (sent .entry)) (length (now (back .entry))))) (now (back .entry)) ⌝ }
+    ensures chip { λ _. ⌜ chipOf (now (chip .exit)) ≡ cond (leb (length (now (sent .entry)) + length (now (back .entry))) 320) (after (now (chip .entry) .number) (chipOf (now (chip .entry))) (frame (now (sent .entry)) (length (now (back .entry))))) (chipOf (now (chip .entry))) ⌝ }
     ensures out { λ r. ⌜ made r (λ _. vec-items (now (out .exit)) ≡ vec-items (now (out .entry)) ++ lineOf (length (now (sent .entry)) + length (now (back .entry))) (now (back .exit))) ⌝ }
 {
-    match chip.exchange(sent, back) {
+    match chip.transfer(sent, back) {
         Ok(()) => show(back, out)?,
         Err(_) => out.extend_from_slice(b"E10")?,
     }

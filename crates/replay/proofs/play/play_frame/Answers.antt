@@ -3,7 +3,7 @@ use mathlib.Core.Bool.{Bool, true, false, cond}
 use mathlib.Core.List.{List, _++_, _∷_, []}
 use Prim.Native.Nat.{ℕ, _+_}
 use lib.Dec.{leb}
-use lib.ListN.{length, getD}
+use lib.ListN.{length}
 use Rattle.std.specs.Of.Vec.{vec-items}
 use Rattle.std.specs.Results.{isOk}
 use Rattle.std.specs.declared.result.Result.{Result}
@@ -31,19 +31,19 @@ ended before mid after text t y n e f g =
 pub returns : need.returns
 returns c =
     let n = length (c .args .sent .now) + length (c .args .back .now) in
-    let ok : isOk (c .exchange .result) ≡ leb n 320 = ap isOk (c .exchange .ensures .result) ∙ decided (leb n 320) _ in
+    let ok : isOk (c .transfer .result) ≡ leb n 320 = ap isOk (c .transfer .ensures .result) ∙ decided (leb n 320) _ in
     let p = pushed (10 ∷ []) refl (c .in-Continue-push .was tt) (c .push .ensures .items) in
     record {
-      back = subst (λ t. c .exchange .last .back ≡ cond t (answer (getD (c .exchange .last .back) 0 0) (chipOf (c .args .chip .now)) (frame (c .args .sent .now) (length (c .args .back .now)))) (c .args .back .now)) ok (c .exchange .ensures .back);
-      chip = subst (λ t. chipOf (c .exchange .last .self) ≡ cond t (after (c .exchange .last .self .busy) (chipOf (c .args .chip .now)) (frame (c .args .sent .now) (length (c .args .back .now)))) (chipOf (c .args .chip .now))) ok (c .exchange .ensures .chip);
-      out = elim (c .match-exchange .came) [
+      back = subst (λ t. c .transfer .last .back ≡ cond t (answer 0 (chipOf (c .args .chip .now)) (frame (c .args .sent .now) (length (c .args .back .now)))) (c .args .back .now)) ok (c .transfer .ensures .back);
+      chip = subst (λ t. chipOf (c .transfer .last .self) ≡ cond t (after (c .args .chip .now .number) (chipOf (c .args .chip .now)) (frame (c .args .sent .now) (length (c .args .back .now)))) (chipOf (c .args .chip .now))) ok (c .transfer .ensures .chip);
+      out = elim (c .match-transfer .came) [
         | in-Ok·in-Continue-show w ↦
             let t : true ≡ leb n 320 = sym (ap isOk (w .in-Ok .is)) ∙ ok in
-            ended (vec-items (c .args .out .now)) (vec-items (c .match-exchange .out)) _ (shown (c .exchange .last .back)) (leb n 320) _ _
-            (ap vec-items (w .out-is) ∙ w .in-Continue-show .ensures tt) (ap (λ b. cond b (shown (c .exchange .last .back)) tooLong) t) p
+            ended (vec-items (c .args .out .now)) (vec-items (c .match-transfer .out)) _ (shown (c .transfer .last .back)) (leb n 320) _ _
+            (ap vec-items (w .out-is) ∙ w .in-Continue-show .ensures tt) (ap (λ b. cond b (shown (c .transfer .last .back)) tooLong) t) p
         | in-Err·in-Continue-extend-from-slice w ↦
             let t : false ≡ leb n 320 = sym (ap isOk (w .in-Err .is)) ∙ ok in
-            ended (vec-items (c .args .out .now)) (vec-items (c .match-exchange .out)) _ tooLong (leb n 320) _ _
-            (ap vec-items (w .out-is) ∙ pushed tooLong refl (w .in-Continue-extend-from-slice .was tt) (w .extend-from-slice .ensures .items)) (ap (λ b. cond b (shown (c .exchange .last .back)) tooLong) t) p
+            ended (vec-items (c .args .out .now)) (vec-items (c .match-transfer .out)) _ tooLong (leb n 320) _ _
+            (ap vec-items (w .out-is) ∙ pushed tooLong refl (w .in-Continue-extend-from-slice .was tt) (w .extend-from-slice .ensures .items)) (ap (λ b. cond b (shown (c .transfer .last .back)) tooLong) t) p
       ];
     }
