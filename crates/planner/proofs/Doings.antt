@@ -18,7 +18,7 @@ use Rattle.planner.specs.declared.step.Step.{Step}
 use Rattle.planner.specs.declared.run_fault.RunFault.{RunFault}
 use Rattle.planner.specs.Steps.{stepCycle, cyclesOf}
 use Rattle.planner.specs.Waits.{Polls, waitedBy}
-use Rattle.planner.specs.Sending.{Carries, Refuses, Sends, none, more, Ran, no-limit, still-busy, ran, refused, abandoned, sentBefore, Did}
+use Rattle.planner.specs.Running.{Carries, Refuses, Sends, none, more, Ran, no-limit, still-busy, ran, refused, abandoned, sentBefore, Did}
 
 pub cycles-++ : (es fs : List Event) → cycles (es ++ fs) ≡ cycles es ++ cycles fs
 cycles-++ [] fs = refl

@@ -18,7 +18,7 @@ use Rattle.part.specs.declared.fault.PartFault.the-variants.{Outside, PageData}
 use Rattle.part.specs.Meaning.{Meaning}
 use Rattle.part.specs.Verdict.{check, inside, told, verdictIf}
 use Rattle.planner.specs.declared.step.Step.{Step}
-use Rattle.planner.specs.Sending.{held, lies, stepVerdictIf}
+use Rattle.planner.specs.Running.{held, lies, stepVerdictIf}
 use Rattle.planner.specs.Sent.{Same}
 
 pub same-cycle : (k : Kind) (a : ℕ) (xs ys : List ℕ) → Same k xs ys → cycleOf k a xs ≡ cycleOf k a ys

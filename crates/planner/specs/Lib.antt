@@ -10,5 +10,5 @@ pub mod Worked
 pub mod Theorems
 pub mod Waits
 pub mod RunRows
-pub mod Sending
+pub mod Running
 pub mod Sent

@@ -1,6 +1,6 @@
 // A list of steps sent to a part.
 ghost use lib.ListN.{take};
-ghost use Rattle.planner.specs.Sending.{Did, Ran, sentBefore};
+ghost use Rattle.planner.specs.Running.{Did, Ran, sentBefore};
 ghost use Rattle.planner.specs.Steps.{cyclesOf};
 use crate::run_fault::RunFault;
 use crate::send::send;

@@ -7,7 +7,7 @@ ghost use Rattle.std.specs.Options.{Cases as BySome};
 ghost use Rattle.std.specs.Results.{Cases};
 ghost use Rattle.memory.specs.Page.{block};
 ghost use Rattle.memory.specs.Shape.{size};
-ghost use Rattle.planner.specs.Sending.{Carries, Refuses, held, lies};
+ghost use Rattle.planner.specs.Running.{Carries, Refuses, held, lies};
 ghost use Rattle.planner.specs.Sent.{Same};
 use crate::step::Step;
 use memory::kind::Kind;

@@ -11,7 +11,7 @@ use Rattle.planner.specs.declared.step.Step.{Step}
 use Rattle.planner.specs.declared.run_fault.RunFault.{RunFault}
 use Rattle.planner.specs.declared.run_fault.RunFault.the-variants.{Limit, StillBusy, Refused, Abandoned}
 use Rattle.planner.specs.Steps.{cyclesOf}
-use Rattle.planner.specs.Sending.{Sends, none, more, Ran, no-limit, still-busy, ran, refused, abandoned, sentBefore, Did}
+use Rattle.planner.specs.Running.{Sends, none, more, Ran, no-limit, still-busy, ran, refused, abandoned, sentBefore, Did}
 use Rattle.planner.proofs.Doings.{ran-did}
 use Rattle.planner.proofs.Waiting.{polled-out, polled-short}
 use Rattle.planner.proofs.run.run.Given as given

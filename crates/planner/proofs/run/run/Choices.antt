@@ -1,6 +1,6 @@
 use mathlib.Core.Path.{_≡_}
 use lib.ListN.{take}
-use Rattle.planner.specs.Sending.{Sends}
+use Rattle.planner.specs.Running.{Sends}
 use Rattle.planner.proofs.run.run.Given as given
 
 -- the steps so far were sent, and nothing is due
