@@ -17,3 +17,6 @@ pub mod Stepped
 pub mod Theorems
 pub mod Answered
 pub mod Examples
+pub mod Overlays
+pub mod Pages
+pub mod Sendings

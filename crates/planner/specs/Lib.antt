@@ -8,3 +8,6 @@ pub mod Barred
 pub mod Writes
 pub mod Worked
 pub mod Theorems
+pub mod Overlay
+pub mod Looking
+pub mod Sending
