@@ -20,3 +20,6 @@ pub mod Examples
 pub mod Overlays
 pub mod Pages
 pub mod Sendings
+pub mod Lookings
+pub mod Totals
+pub mod Surveys

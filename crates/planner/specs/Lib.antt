@@ -11,3 +11,6 @@ pub mod Theorems
 pub mod Overlay
 pub mod Looking
 pub mod Sending
+pub mod Survey
+pub mod Choice
+pub mod Changes

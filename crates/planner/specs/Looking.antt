@@ -1,8 +1,9 @@
 -- Looking at a part: bytes are asked for, and nothing alters.
 use mathlib.Core.Path.{_≡_}
-use mathlib.Core.Bool.{true}
+use mathlib.Core.Bool.{Bool, true, _&&_}
 use mathlib.Core.List.{List, []}
-use Prim.Native.Nat.{ℕ, _+_, _≤_}
+use Prim.Native.Nat.{ℕ, _+_, _*_, _≤_, _<_}
+use lib.Dec.{ltb}
 use lib.ListN.{length}
 use Rattle.memory.specs.Shape.{size}
 use Rattle.memory.specs.Page.{put}
@@ -25,3 +26,13 @@ pub record Fitting (m : Meaning) (address : ℕ) (bytes : List ℕ) : Type 0 whe
 -- the image that a write of bytes at an address wants
 abbrev pub wanted : Meaning → ℕ → List ℕ → List ℕ
 wanted m address bytes = put address bytes (m .image)
+
+-- an idle memory that has a page of this number
+pub record Readable (m : Meaning) (q : ℕ) : Type 0 where
+  pub sound : Sound m
+  pub idle : idle m ≡ true
+  pub here : q < m .shape .sectors * m .shape .pages
+
+-- the write has bytes for page q, of pages of 64 bytes
+abbrev pub touched : ℕ → List ℕ → ℕ → Bool
+touched address bytes q = ltb (q * 64) (address + length bytes) && ltb address (q * 64 + 64)

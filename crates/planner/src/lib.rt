@@ -1,7 +1,12 @@
+mod barred;
+mod choice;
+mod chosen;
 pub mod cost;
 pub mod least_cost;
+mod look;
 mod overlay;
 mod page;
 mod sheet;
 pub mod step;
+mod survey;
 pub mod window;
