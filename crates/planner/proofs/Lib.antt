@@ -23,3 +23,4 @@ pub mod Sendings
 pub mod Lookings
 pub mod Totals
 pub mod Surveys
+pub mod Barrings

@@ -23,7 +23,7 @@ module _ (address : ℕ) (bytes : List ℕ) where
       ≡ take (i + 1) (set run i v) ++ overlaid address bytes (at + (i + 1)) (drop (i + 1) (set run i v))
   overlaid-more at i v run h e =
       let b : overlaid address bytes (at + i) (drop i run)
-          ≡ wantedAt address bytes (at + i) (getD run i 0) ∷ overlaid address bytes (suc (at + i)) (drop (i + 1) run) =
+      ≡ wantedAt address bytes (at + i) (getD run i 0) ∷ overlaid address bytes (suc (at + i)) (drop (i + 1) run) =
       ap (λ x. overlaid address bytes (at + i) x) (drop-more run i 0 h) in
       let t = take-more-set run i v h in
       let d = drop-set-lt (i + 1) run i v (omega arith) in

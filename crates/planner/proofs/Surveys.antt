@@ -69,7 +69,7 @@ module _ (limit cost : ℕ × ℕ) where
       let b = below-some e t in
       ap₂ (λ (x : Bool) (y : ℕ × ℕ). (not x, y)) (sym (b .0)) (b .1 ∙ sym (ap (λ (x : Bool). cond x limit cost) (b .0)))
 
-  pub chose-first : 
+  pub chose-first :
       None ≡ below limit cost → _≡_ {A = Bool × (ℕ × ℕ)} (false, limit) (not (fewest .leq limit cost), lesser fewest limit cost)
   chose-first t =
       let b = below-none t in
@@ -96,3 +96,32 @@ free-not prot (suc n) k h e = go (cases-eq k n) (λ l. free-not prot n k l e)
     go : (k ≡ n) ⊎ (k ≡ n → ⊥) → (k < n → free prot n ≡ false) → (not (prot n) && free prot n) ≡ false
     go (inl t) ih = ap (λ (x : Bool). not x && free prot n) (ap prot (sym t) ∙ e)
     go (inr d) ih = and-right (not (prot n)) (free prot n) (ih (omega arith))
+
+-- the choice between the sectors and a bulk erase, which may not be accepted
+module _ (fr : Bool) (limit cost : ℕ × ℕ) where
+  some-free : (e : ℕ × ℕ) (b : Bool) → Some e ≡ cond b (below limit cost) None → (b ≡ true) × (Some e ≡ below limit cost)
+  some-free e true t = (refl, t)
+  some-free e false t = let z : _≡_ {A = ℕ} 0 1 = cc in absurd (omega arith)
+
+  pub chose-bulk :
+      (e : ℕ × ℕ) → Some e ≡ cond fr (below limit cost) None
+      → (true ≡ (fr && not (fewest .leq limit cost))) × (e ≡ cond fr (lesser fewest limit cost) limit)
+  chose-bulk e t =
+      let f = some-free e fr t in
+      let b = below-some limit cost e (f .1) in (
+        sym (ap₂ (λ (x y : Bool). x && not y) (f .0) (b .0)),
+        b .1 ∙ sym (ap₂ (λ (x y : Bool). cond x (cond y limit cost) limit) (f .0) (b .0)),
+      )
+
+  pub chose-sectors :
+      None ≡ cond fr (below limit cost) None
+      → (false ≡ (fr && not (fewest .leq limit cost))) × (limit ≡ cond fr (lesser fewest limit cost) limit)
+  chose-sectors t = go fr t
+    where
+      go :
+          (b : Bool) → None ≡ cond b (below limit cost) None
+          → (false ≡ (b && not (fewest .leq limit cost))) × (limit ≡ cond b (lesser fewest limit cost) limit)
+      go true u =
+          let l = below-none limit cost u in
+          (sym (ap (λ (y : Bool). not y) l), sym (ap (λ (y : Bool). cond y limit cost) l))
+      go false u = (refl, refl)

@@ -63,7 +63,11 @@ fn is_free<P: Part>(part: &P) -> bool
 }
 
 // A bulk erase and then presets, if it is accepted and below what the sectors cost.
-fn bulk_cost<P: Part>(part: &mut P, write: Write<'_>, limit: (usize, usize)) -> Option<(usize, usize)>
+fn bulk_cost<P: Part>(
+    part: &mut P,
+    write: Write<'_>,
+    limit: (usize, usize),
+) -> Option<(usize, usize)>
     requires { ⌜ Fitting (P·Part .meaning (now part)) (write .address) (now (write .bytes)) ⌝ }
     ensures looked { λ _. ⌜ Looked (P·Part .meaning) (P·Part .trace) (P·Part .intact) (now (part .entry)) (now (part .exit)) ⌝ }
     ensures value { λ r. ⌜ (P·Part .intact (now (part .entry)) → r ≡ cond (free (protectedAt (P·Part .meaning (now (part .entry)))) (P·Part .meaning (now (part .entry)) .shape .sectors)) (below limit (bulkCost fewest (P·Part .meaning (now (part .entry)) .shape) (preset (P·Part .meaning (now (part .entry))) (write .entry .address) (now (write .entry .bytes))))) None) ⌝ }

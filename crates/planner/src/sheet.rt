@@ -57,7 +57,12 @@ pub fn put_page(
 }
 
 // An erase, which has no data.
-pub fn put_erase(steps: &mut [Step], at: (usize, usize), kind: Kind, address: usize) -> (usize, usize)
+pub fn put_erase(
+    steps: &mut [Step],
+    at: (usize, usize),
+    kind: Kind,
+    address: usize,
+) -> (usize, usize)
     requires { ⌜ (addressOf (cycleOf kind address []) ≡ address) × (at .0 ≤ length (now steps)) ⌝ }
     ensures sent { λ r. ⌜ ((sent : List ℕ) → Sent (cycleOf kind address [] ∷ []) (now (steps .entry)) (now (steps .exit)) sent sent at r) ⌝ }
     ensures bound { λ r. ⌜ (r .0 ≤ length (now (steps .entry))) × (r .1 ≡ at .1) ⌝ }

@@ -41,7 +41,12 @@ fn preset_cost<P: Part>(part: &mut P, write: Write<'_>, q: usize) -> (usize, usi
 }
 
 // Pages as they stand.
-pub fn keep_costs<P: Part>(part: &mut P, write: Write<'_>, first: usize, count: usize) -> (usize, usize)
+pub fn keep_costs<P: Part>(
+    part: &mut P,
+    write: Write<'_>,
+    first: usize,
+    count: usize,
+) -> (usize, usize)
     requires { ⌜ Fitting (P·Part .meaning (now part)) (write .address) (now (write .bytes)) ⌝ }
     requires { ⌜ first + count ≤ P·Part .meaning (now part) .shape .sectors * P·Part .meaning (now part) .shape .pages ⌝ }
     ensures looked { λ _. ⌜ Looked (P·Part .meaning) (P·Part .trace) (P·Part .intact) (now (part .entry)) (now (part .exit)) ⌝ }
@@ -78,5 +83,9 @@ pub fn erase_costs<P: Part>(
         let page = preset_cost(part, write, first + j);
         cost = (cost.0 + page.0, cost.1 + page.1);
     }
-    if at_most(limit, cost) { None } else { Some(cost) }
+    if at_most(limit, cost) {
+        None
+    } else {
+        Some(cost)
+    }
 }

@@ -10,4 +10,4 @@ Inv-loop-j g l =
     let m = g .P·Part .meaning (l .entry .part) in
     Looked (g .P·Part .meaning) (g .P·Part .trace) (g .P·Part .intact) (l .entry .part) (l .part)
     × (g .P·Part .intact (l .entry .part)
-      → FirstIn (l .first * 64) ((l .first + l .j) * 64) (m .image) (wanted m (l .write .address) (l .write .bytes .now)) None)
+    → FirstIn (l .first * 64) ((l .first + l .j) * 64) (m .image) (wanted m (l .write .address) (l .write .bytes .now)) None)

@@ -10,5 +10,5 @@ Inv-loop-k g l =
     let m = g .P·Part .meaning (l .entry .part) in
     Looked (g .P·Part .meaning) (g .P·Part .trace) (g .P·Part .intact) (l .entry .part) (l .part)
     × (g .P·Part .intact (l .entry .part)
-      → (a : ℕ) → a < l .k * l .pages * 64
-      → Barred (m .shape) (protectedAt m) (m .image) (wanted m (l .write .address) (l .write .bytes .now)) a → ⊥)
+    → (a : ℕ) → a < l .k * l .pages * 64
+    → Barred (m .shape) (protectedAt m) (m .image) (wanted m (l .write .address) (l .write .bytes .now)) a → ⊥)

@@ -41,13 +41,12 @@ loop-j-again g c =
     let a = c .args .write .address in
     let b = c .args .write .bytes .now in
     let m = g .P·Part .meaning (c .args .part .now) in
-    let f : ℕ → ℕ × ℕ = λ i. preset m a b (c .args .first + i) in
-    (
+    let f : ℕ → ℕ × ℕ = λ i. preset m a b (c .args .first + i) in (
       looked-join (g .P·Part .meaning) (g .P·Part .trace) (g .P·Part .intact) (g .P·Part·met .joins) _ _ _ (inv .0) (page .looked),
       omega (arith, inv, page .bound),
       omega (arith, inv, page .bound),
       λ h.
-      ap₂ (λ x y. fewest .plus x y) (inv .3 h)
+          ap₂ (λ x y. fewest .plus x y) (inv .3 h)
           (page .value (inv .0 .keeps h) ∙ ap (λ x. preset x a b (c .args .first + c .loop-j .j)) (inv .0 .same))
           ∙ (fewest-lawful 64 .plus-assoc (1, 0) (sumTo fewest (c .loop-j .j) f) (f (c .loop-j .j))
           ∙ ap (λ x. fewest .plus (1, 0) x) (sym (sum-more fewest (c .loop-j .j) f))),

@@ -17,13 +17,12 @@ loop-j-again g c =
     let page = c .keep-cost-page .ensures in
     let a = c .args .write .address in
     let b = c .args .write .bytes .now in
-    let m = g .P·Part .meaning (c .args .part .now) in
-    (
+    let m = g .P·Part .meaning (c .args .part .now) in (
       looked-join (g .P·Part .meaning) (g .P·Part .trace) (g .P·Part .intact) (g .P·Part·met .joins) _ _ _ (inv .0) (page .looked),
       omega (arith, inv, page .bound),
       omega (arith, inv, page .bound),
       λ h.
-      ap₂ (λ x y. fewest .plus x y) (inv .3 h)
+          ap₂ (λ x y. fewest .plus x y) (inv .3 h)
           (page .value (inv .0 .keeps h) ∙ ap (λ x. kept x a b (c .args .first + c .loop-j .j)) (inv .0 .same))
           ∙ sym (sum-more fewest (c .loop-j .j) (λ i. kept m a b (c .args .first + i))),
     )
