@@ -24,3 +24,5 @@ pub mod Lookings
 pub mod Totals
 pub mod Surveys
 pub mod Barrings
+pub mod Emitted
+pub mod Calls

@@ -14,3 +14,5 @@ pub mod Sending
 pub mod Survey
 pub mod Choice
 pub mod Changes
+pub mod Lists
+pub mod Call
