@@ -20,3 +20,12 @@ pub mod Examples
 pub mod Waiting
 pub mod Sendable
 pub mod Doings
+pub mod Overlays
+pub mod Pages
+pub mod Sendings
+pub mod Lookings
+pub mod Totals
+pub mod Surveys
+pub mod Barrings
+pub mod Emitted
+pub mod Calls

@@ -12,3 +12,11 @@ pub mod Waits
 pub mod RunRows
 pub mod Running
 pub mod Sent
+pub mod Overlay
+pub mod Looking
+pub mod Sending
+pub mod Survey
+pub mod Choice
+pub mod Changes
+pub mod Lists
+pub mod Call

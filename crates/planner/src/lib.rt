@@ -1,8 +1,20 @@
+// What a write costs at least, the plan that costs it, and plans run over any part.
+mod barred;
+mod choice;
+mod chosen;
 pub mod cost;
+mod emit;
+pub mod fault;
 pub mod least_cost;
+mod look;
+mod overlay;
+mod page;
+pub mod plan;
 pub mod run;
 pub mod run_fault;
 pub mod send;
+mod sheet;
 pub mod step;
+mod survey;
 pub mod wait;
 pub mod window;

@@ -5,7 +5,7 @@ ghost use lib.ListN.{length};
 ghost use Rattle.planner.specs.Window.{window, Windowed, FirstChange};
 
 // The lowest place where the two differ.
-fn first_change(old: &[u8], new: &[u8]) -> Option<usize>
+pub(crate) fn first_change(old: &[u8], new: &[u8]) -> Option<usize>
     ensures { λ r. ⌜ FirstChange (min (length (now (old .entry))) (length (now (new .entry)))) (now (old .entry)) (now (new .entry)) r ⌝ }
 {
     let size = old.len().min(new.len());
