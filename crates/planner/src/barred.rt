@@ -43,7 +43,7 @@ fn change_in<P: Part>(part: &mut P, write: Write<'_>, first: usize, count: usize
     None
 }
 
-pub fn lowest_barred<P: Part>(part: &mut P, write: Write<'_>) -> Option<usize>
+pub(crate) fn lowest_barred<P: Part>(part: &mut P, write: Write<'_>) -> Option<usize>
     requires { ⌜ Fitting (P·Part .meaning (now part)) (write .address) (now (write .bytes)) ⌝ }
     ensures looked { λ _. ⌜ Looked (P·Part .meaning) (P·Part .trace) (P·Part .intact) (now (part .entry)) (now (part .exit)) ⌝ }
     ensures value { λ r. ⌜ (P·Part .intact (now (part .entry)) → LowestIs (P·Part .meaning (now (part .entry)) .shape) (protectedAt (P·Part .meaning (now (part .entry)))) (P·Part .meaning (now (part .entry)) .image) (wanted (P·Part .meaning (now (part .entry))) (write .entry .address) (now (write .entry .bytes))) r) ⌝ }

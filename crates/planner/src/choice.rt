@@ -79,7 +79,7 @@ fn bulk_cost<P: Part>(
     erase_costs(part, write, 0, count, limit)
 }
 
-pub fn choose<P: Part>(part: &mut P, write: Write<'_>) -> Choice
+pub(crate) fn choose<P: Part>(part: &mut P, write: Write<'_>) -> Choice
     requires { ⌜ Fitting (P·Part .meaning (now part)) (write .address) (now (write .bytes)) ⌝ }
     ensures looked { λ _. ⌜ Looked (P·Part .meaning) (P·Part .trace) (P·Part .intact) (now (part .entry)) (now (part .exit)) ⌝ }
     ensures value { λ r. ⌜ (P·Part .intact (now (part .entry)) → Chosen (P·Part .meaning (now (part .entry))) (write .entry .address) (now (write .entry .bytes)) r) ⌝ }

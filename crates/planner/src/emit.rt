@@ -192,7 +192,7 @@ fn put_bulk<P: Part>(
 }
 
 // The plan that was chosen.
-pub fn put_plan<P: Part>(
+pub(crate) fn put_plan<P: Part>(
     part: &mut P,
     write: Write<'_>,
     choice: &Choice,

@@ -12,7 +12,7 @@ use part::part::Part;
 pub type Page = [u8; PAGE_BYTES];
 
 // The bytes of page q as they stand.
-pub fn read_page<P: Part>(part: &mut P, q: usize) -> Page
+pub(crate) fn read_page<P: Part>(part: &mut P, q: usize) -> Page
     requires { ⌜ Readable (P·Part .meaning (now part)) q ⌝ }
     ensures looked { λ _. ⌜ Looked (P·Part .meaning) (P·Part .trace) (P·Part .intact) (now (part .entry)) (now (part .exit)) ⌝ }
     ensures long { λ r. ⌜ length r ≡ 64 ⌝ }
@@ -24,7 +24,7 @@ pub fn read_page<P: Part>(part: &mut P, q: usize) -> Page
 }
 
 // Whether a write has bytes for page q.
-pub fn touches(write: Write<'_>, q: usize) -> bool
+pub(crate) fn touches(write: Write<'_>, q: usize) -> bool
     requires { ⌜ (q < 262144) × (write .address + length (now (write .bytes)) ≤ 16777216) ⌝ }
     ensures { λ r. ⌜ r ≡ touched (write .entry .address) (now (write .entry .bytes)) q ⌝ }
 {
@@ -33,7 +33,7 @@ pub fn touches(write: Write<'_>, q: usize) -> bool
 }
 
 // Page q as it stands, and as a write wants it.
-pub fn both_pages<P: Part>(part: &mut P, write: Write<'_>, q: usize) -> (Page, Page)
+pub(crate) fn both_pages<P: Part>(part: &mut P, write: Write<'_>, q: usize) -> (Page, Page)
     requires { ⌜ Fitting (P·Part .meaning (now part)) (write .address) (now (write .bytes)) × Readable (P·Part .meaning (now part)) q ⌝ }
     ensures looked { λ _. ⌜ Looked (P·Part .meaning) (P·Part .trace) (P·Part .intact) (now (part .entry)) (now (part .exit)) ⌝ }
     ensures long { λ r. ⌜ (length (r .0) ≡ 64) × (length (r .1) ≡ 64) ⌝ }
@@ -47,7 +47,7 @@ pub fn both_pages<P: Part>(part: &mut P, write: Write<'_>, q: usize) -> (Page, P
 }
 
 // Page q as a write wants it. A page that the write covers is not read.
-pub fn wanted_page<P: Part>(part: &mut P, write: Write<'_>, q: usize) -> Page
+pub(crate) fn wanted_page<P: Part>(part: &mut P, write: Write<'_>, q: usize) -> Page
     requires { ⌜ Fitting (P·Part .meaning (now part)) (write .address) (now (write .bytes)) × Readable (P·Part .meaning (now part)) q ⌝ }
     ensures looked { λ _. ⌜ Looked (P·Part .meaning) (P·Part .trace) (P·Part .intact) (now (part .entry)) (now (part .exit)) ⌝ }
     ensures long { λ r. ⌜ length r ≡ 64 ⌝ }

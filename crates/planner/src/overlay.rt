@@ -24,7 +24,7 @@ fn wanted_at(write: Write<'_>, place: usize, old: u8) -> u8
 }
 
 // Puts what is wanted into a run of bytes that begins at an address.
-pub fn overlay(run: &mut [u8], at: usize, write: Write<'_>)
+pub(crate) fn overlay(run: &mut [u8], at: usize, write: Write<'_>)
     requires { ⌜ (at + length (now run) < 2 ^ 64) × (write .address + length (now (write .bytes)) < 2 ^ 64) ⌝ }
     ensures { λ _. ⌜ now (run .exit) ≡ overlaid (write .entry .address) (now (write .entry .bytes)) at (now (run .entry)) ⌝ }
 {

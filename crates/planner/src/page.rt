@@ -9,7 +9,7 @@ use crate::window::window;
 use memory::model::PAGE_BYTES;
 
 // The cost of one page cycle at most.
-pub fn page_cost(old: &[u8], new: &[u8]) -> (usize, usize)
+pub(crate) fn page_cost(old: &[u8], new: &[u8]) -> (usize, usize)
     requires { ⌜ (length (now old) ≡ 64) × (length (now new) ≡ 64) ⌝ }
     ensures value { λ r. ⌜ r ≡ windowCost fewest (window 64 (now (old .entry)) (now (new .entry))) ⌝ }
     ensures bound { λ r. ⌜ (r .0 ≤ 1) × (r .1 ≤ 64) ⌝ }
@@ -21,14 +21,14 @@ pub fn page_cost(old: &[u8], new: &[u8]) -> (usize, usize)
 }
 
 // A page once erased.
-pub fn blank() -> [u8; PAGE_BYTES]
+pub(crate) fn blank() -> [u8; PAGE_BYTES]
     ensures { λ r. ⌜ r ≡ replicate 64 255 ⌝ }
 {
     [0xFF; PAGE_BYTES]
 }
 
 // Whether no bit rises.
-pub fn only_lowers(old: &[u8], new: &[u8]) -> bool
+pub(crate) fn only_lowers(old: &[u8], new: &[u8]) -> bool
     requires { ⌜ length (now old) ≡ length (now new) ⌝ }
     ensures { λ r. ⌜ r ≡ lowers (now (old .entry)) (now (new .entry)) ⌝ }
 {

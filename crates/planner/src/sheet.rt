@@ -26,7 +26,7 @@ fn send_bytes(data: &mut [u8], at: usize, page: &[u8], window: (usize, usize))
 }
 
 // The cycle that sends the wanted bytes of a window of page q, if there is one.
-pub fn put_page(
+pub(crate) fn put_page(
     steps: &mut [Step],
     data: &mut [u8],
     at: (usize, usize),
@@ -57,7 +57,7 @@ pub fn put_page(
 }
 
 // An erase, which has no data.
-pub fn put_erase(
+pub(crate) fn put_erase(
     steps: &mut [Step],
     at: (usize, usize),
     kind: Kind,

@@ -41,7 +41,7 @@ fn preset_cost<P: Part>(part: &mut P, write: Write<'_>, q: usize) -> (usize, usi
 }
 
 // Pages as they stand.
-pub fn keep_costs<P: Part>(
+pub(crate) fn keep_costs<P: Part>(
     part: &mut P,
     write: Write<'_>,
     first: usize,
@@ -62,7 +62,7 @@ pub fn keep_costs<P: Part>(
 }
 
 // An erase and then presets of pages, if that is below a limit. Costs only grow, so it stops where they reach the limit.
-pub fn erase_costs<P: Part>(
+pub(crate) fn erase_costs<P: Part>(
     part: &mut P,
     write: Write<'_>,
     first: usize,
