@@ -1,8 +1,15 @@
-// Erases a 128Mb bench chip and reads all of it, frame by frame and then through a driver: a measure of speed.
+// Erases a 128Mb bench chip and reads all of it, frame by frame and then through a driver; then plans a write of all of
+// a plain image: a measure of speed.
 use driver::attach::attach;
 use driver::driver_part::DriverPart;
 use memory::bytes::is_blank;
+use memory::kind::Kind;
+use memory::model::PAGE_BYTES;
 use part::part::Part;
+use part::plain::PlainImage;
+use part::plain_part::PlainPart;
+use planner::plan::plan;
+use planner::step::Step;
 use port::bench::BenchChip;
 use port::bench_port::BenchPort;
 use port::fault::PortFault;
@@ -13,7 +20,18 @@ const CAPACITY: u8 = 0x18;
 
 const BYTES: usize = 16777216;
 
+const SECTORS: usize = 128;
+
+const PAGES: usize = 2048;
+
 const STATUS: u8 = 0x80;
+
+const UNUSED: Step = Step {
+    kind: Kind::BulkErase,
+    address: 0,
+    length: 0,
+    place: 0,
+};
 
 const WRITE_ENABLE: [u8; 1] = [0x06];
 
@@ -68,6 +86,23 @@ fn erased(chip: &mut BenchChip) -> Result<usize, PortFault> {
     sweep(chip)
 }
 
+// What a write of the whole memory costs: every byte changes from 5Ah to A5h.
+fn plan_all(rt: &LibcRuntime) -> Result<(), AnyError> {
+    let heap = rt.alloc();
+    let image = vec![in heap; 0x5A; BYTES]?;
+    let bytes = vec![in heap; 0xA5; BYTES]?;
+    let mut steps = vec![in heap; UNUSED; BYTES / PAGE_BYTES]?;
+    let mut data = vec![in heap; 0; BYTES]?;
+    let Ok(mut part) = PlainImage::new(SECTORS, PAGES, STATUS, image) else {
+        return Err("the plain image cannot be made".into());
+    };
+    let Ok((cycles, sent)) = plan(&mut part, 0, &bytes, &mut steps, &mut data) else {
+        return Err("the write is not planned".into());
+    };
+    println!(rt, "a write of all of it: {cycles} cycles, {sent} bytes")?;
+    Ok(())
+}
+
 fn main(rt: LibcRuntime) -> Result<(), AnyError> {
     let image = vec![in rt.alloc(); 0; BYTES]?;
     let Ok(mut chip) = BenchChip::new(CAPACITY, image, STATUS, 0) else {
@@ -86,5 +121,5 @@ fn main(rt: LibcRuntime) -> Result<(), AnyError> {
     };
     let all = is_blank(&bytes);
     println!(rt, "all FFh through a driver: {all}")?;
-    Ok(())
+    plan_all(&rt)
 }
