@@ -16,15 +16,9 @@ use crate::choice::choose;
 use crate::emit::put_plan;
 use crate::fault::PlanFault;
 use crate::overlay::Write;
+use crate::send::size_of;
 use crate::step::Step;
-use memory::model::PAGE_BYTES;
 use part::part::Part;
-
-fn size<P: Part>(part: &P) -> usize
-    ensures { λ r. ⌜ r ≡ size (P·Part .meaning (now (part .entry)) .shape) ⌝ }
-{
-    part.sectors() * part.pages() * PAGE_BYTES
-}
 
 // Whether n bytes from an address on are among so many.
 fn is_inside(size: usize, address: usize, n: usize) -> bool
@@ -85,7 +79,7 @@ pub fn plan<P: Part>(
     ensures rest { λ r. ⌜ Cases r (λ cost. (drop (cost .0) (now (steps .exit)) ≡ drop (cost .0) (now (steps .entry))) × (drop (cost .1) (now («data» .exit)) ≡ drop (cost .1) (now («data» .entry)))) (λ _. Unit {0}) ⌝ }
     ensures answer { λ r. ⌜ (P·Part .intact (now (part .entry)) → Handed (planCall (P·Part .meaning (now (part .entry))) address (now (bytes .entry)) (length (now (steps .entry))) (length (now («data» .entry)))) r (now (steps .entry)) (now (steps .exit)) (now («data» .entry)) (now («data» .exit))) ⌝ }
 {
-    if !is_inside(size(part), address, bytes.len()) {
+    if !is_inside(size_of(part), address, bytes.len()) {
         return Err(PlanFault::Outside(address));
     }
     if part.is_busy() {

@@ -31,7 +31,7 @@ fn sent_by<'a>(step: &Step, data: &'a [u8]) -> Option<&'a [u8]>
 }
 
 // How many bytes the part has.
-fn size_of<P: Part>(part: &P) -> usize
+pub(crate) fn size_of<P: Part>(part: &P) -> usize
     ensures { λ r. ⌜ r ≡ size (P·Part .meaning (now (part .entry)) .shape) ⌝ }
 {
     part.sectors() * part.pages() * PAGE_BYTES

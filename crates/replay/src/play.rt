@@ -58,7 +58,7 @@ fn play_frame(
 }
 
 // Plays the frame of a line. `room` is for the bytes of the frame. A note does nothing.
-pub fn play(
+pub(crate) fn play(
     chip: &mut BenchChip,
     line: Line,
     room: &mut [u8],

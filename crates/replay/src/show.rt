@@ -27,7 +27,7 @@ fn show_pair(byte: u8, out: &mut Vec<u8>) -> Result<(), AllocError>
 }
 
 // Uppercase pairs with single spaces, or `-` for none.
-pub fn show(bytes: &[u8], out: &mut Vec<u8>) -> Result<(), AllocError>
+pub(crate) fn show(bytes: &[u8], out: &mut Vec<u8>) -> Result<(), AllocError>
     ensures { λ r. ⌜ made r (λ _. vec-items (now (out .exit)) ≡ vec-items (now (out .entry)) ++ shown (now (bytes .entry))) ⌝ }
 {
     if bytes.len() == 0 {

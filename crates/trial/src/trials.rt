@@ -91,7 +91,7 @@ fn two_pages(heap: Global) -> Result<Trial, AllocError> {
 }
 
 // The trial of a number; none past the last.
-pub fn make_trial(heap: Global, number: usize) -> Result<Option<Trial>, AllocError> {
+pub(crate) fn make_trial(heap: Global, number: usize) -> Result<Option<Trial>, AllocError> {
     let trial = match number {
         0 => blank(heap, OPEN, 2048, 0)?,
         1 => blank(heap, OPEN, 2049, 0)?,

@@ -14,7 +14,7 @@ pub returns-then-not-is-inside : need.returns-then-not-is-inside
 returns-then-not-is-inside g c =
     let m = g .P·Part .meaning (c .args .part .now) in
     let f : leb (c .args .address + length (c .args .bytes .now)) (size (m .shape)) ≡ false =
-    ap (λ s. leb (c .args .address + length (c .args .bytes .now)) s) (sym (c .size .ensures)) ∙ sym (c .if-not-is-inside .ensures tt) in
+    ap (λ s. leb (c .args .address + length (c .args .bytes .now)) s) (sym (c .size-of .ensures)) ∙ sym (c .if-not-is-inside .ensures tt) in
     record {
       looked = looked-none (g .P·Part .meaning) (g .P·Part .trace) (g .P·Part .intact) (c .args .part .now) (g .P·Part·met .stays (c .args .part .now));
       outside = λ _. refl;
@@ -28,7 +28,7 @@ pub returns : need.returns
 returns g c =
     let m = g .P·Part .meaning (c .args .part .now) in
     let f : leb (c .args .address + length (c .args .bytes .now)) (size (m .shape)) ≡ true =
-    ap (λ s. leb (c .args .address + length (c .args .bytes .now)) s) (sym (c .size .ensures)) ∙ sym (c .if-not-is-inside .ensures tt) in
+    ap (λ s. leb (c .args .address + length (c .args .bytes .now)) s) (sym (c .size-of .ensures)) ∙ sym (c .if-not-is-inside .ensures tt) in
     let i : idle m ≡ true = not-false (idle m) (sym (c .if-is-busy .ensures tt)) in
     let inside = c .plan-inside .ensures in
     record {
