@@ -1,4 +1,6 @@
 // A part made of a port: attaching to the chip behind it, and the frames that each call sends.
+#![tactic(auto)]
+
 mod ask;
 pub mod attach;
 mod cycle;

@@ -1,4 +1,5 @@
 //! Frame listings: frames as text, one a line.
+#![tactic(auto)]
 
 mod bytes;
 mod extent;

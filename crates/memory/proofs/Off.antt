@@ -1,16 +1,13 @@
 -- What a cycle leaves alone: the other pages, or the other sectors.
-use Rattle.std.proofs.Common.{◌≡◌, ℕ, zero, suc, ◌+◌, ◌-◌, ◌*◌, ◌/◌, ◌%◌, ◌<◌, ◌≤◌, Bool, true, ◌⊎◌, List, [], ◌∷◌, ◌++◌, length, get_or, take, drop, replicate, sym, refl, ap, ◌∙◌, subst, inl, inr, ⊎_elim, mod-lt, mul_assoc, add-mul, div-add-mod', arith, length-append, length-drop, length-take}
+use Rattle.std.proofs.Common.{◌≡◌, ℕ, ◌+◌, ◌-◌, ◌*◌, ◌/◌, ◌%◌, ◌<◌, ◌≤◌, ◌⊎◌, List, ◌++◌, length, get_or, take, drop, replicate, refl, ap, ◌∙◌, inl, inr, ⊎_elim, mod-lt, add-mul, div-add-mod', arith, length-drop, length-take}
 use lib.ListN.{length-replicate}
 use Rattle.std.proofs.lemmas.Nat.{div_below, mul-le}
 use Rattle.std.proofs.lemmas.List.{get_or_append_left, get_or-append_right, get_or-take, get_or-drop}
-use Rattle.std.proofs.lemmas.Bool.{cases_order, ltb-true}
+use Rattle.std.proofs.lemmas.Bool.{cases_order}
 use Rattle.memory.specs.Shape.{Shape, size, sector_at}
-use Rattle.memory.specs.Page.{put, page, block, merged, cover, written}
-use Rattle.memory.specs.Cycle.{Cycle, program, alter, preset, sector_erase, bulk_erase, effect, sector_start, replacing}
-use Rattle.memory.specs.Image.{reaches}
-use Rattle.memory.proofs.Blocks.{length-put}
+use Rattle.memory.specs.Page.{put, page, merged, cover, written}
+use Rattle.memory.specs.Cycle.{sector_erase, effect, sector_start}
 use Rattle.memory.proofs.Covers.{length_merged}
-use lib.Bits.{bit_and}
 
 -- a place away from what was put
 pub get_or-put_off : (at : ℕ) (xs image : List ℕ) (i : ℕ) → at + length xs ≤ length image → (i < at) ⊎ (at + length xs ≤ i)

@@ -1,5 +1,5 @@
 -- Reading that does not come to the end does not roll over.
-use Rattle.std.proofs.Common.{◌≡◌, ℕ, zero, suc, ◌+◌, ◌%◌, ◌<◌, ◌≤◌, List, [], ◌∷◌, length, get_or, take, drop, sym, refl, ap, ◌∙◌, ap₂, mod-eq_of_lt, arith}
+use Rattle.std.proofs.Common.{◌≡◌, ℕ, zero, suc, ◌+◌, ◌%◌, ◌<◌, ◌≤◌, List, ◌∷◌, length, get_or, take, sym, refl, ap, ◌∙◌, ap₂, mod-eq_of_lt, arith}
 use Rattle.std.proofs.lemmas.List.{drop_more}
 use Rattle.memory.specs.Page.{block}
 use Rattle.memory.specs.Image.{rolled}

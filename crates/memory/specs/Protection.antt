@@ -1,5 +1,5 @@
 -- Which sectors the status byte protects.
-use Rattle.std.specs.Prelude.{ℕ, zero, suc, ◌-◌, ◌/◌, ◌^◌, min, Bool, true, false, cond, not, ◌&&◌, ◌==◌, bit_and, nat_le, nat_lt}
+use Rattle.std.specs.Prelude.{ℕ, zero, suc, ◌-◌, ◌/◌, ◌^◌, min, Bool, true, cond, not, ◌&&◌, ◌==◌, bit_and, nat_le, nat_lt}
 
 -- bits 4 to 2, BP2 to BP0, as a number
 abbrev pub block_protect : ℕ → ℕ

@@ -1,5 +1,5 @@
 -- How a memory is divided: sectors of pages of bytes. An image is the list of all its bytes.
-use Rattle.std.specs.Prelude.{◌≡◌, ℕ, ◌*◌, ◌/◌, ◌<◌, ◌≤◌, List, length, slice_index}
+use Rattle.std.specs.Prelude.{◌≡◌, ℕ, ◌*◌, ◌/◌, ◌<◌, List, length, slice_index}
 
 pub record Shape : Type 0 where
   pub sectors : ℕ

@@ -1,5 +1,7 @@
 // What a serial memory is made of: its geometry, the sectors that its status byte protects, the cycles
 // that alter it, and an image in the caller's memory that does the same.
+#![tactic(auto)]
+
 pub mod bytes;
 mod carry;
 mod cycle;

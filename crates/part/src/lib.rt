@@ -1,5 +1,7 @@
 // A memory that can be planned for: what it means, when it refuses, the interface of a part, and a plain image
 // that is one.
+#![tactic(auto)]
+
 pub mod fault;
 mod making;
 pub mod outline;

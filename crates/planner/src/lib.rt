@@ -1,4 +1,6 @@
 // Plans of least cost made over any part, and plans run over it.
+#![tactic(auto)]
+
 mod barred;
 mod choice;
 mod chosen;

@@ -1,4 +1,6 @@
 // Plays a frame listing on a bench chip and prints what comes back, a line for each frame.
+#![tactic(auto)]
+
 mod play;
 mod show;
 

@@ -1,4 +1,6 @@
 // Scripts of calls to a fence over a bench chip: how one is read, and how what came of its calls is shown.
+#![tactic(auto)]
+
 mod bytes;
 pub mod chip;
 mod command;

@@ -1,4 +1,6 @@
 // Reads a script of calls, makes them to a fence over a driver of a bench chip, and prints what came of each.
+#![tactic(auto)]
+
 mod play;
 
 use anyhow::anyhow;

@@ -1,5 +1,7 @@
 // Erases a 128Mb bench chip and reads all of it, frame by frame and then through a driver; then plans a write of all of
 // a plain image: a measure of speed.
+#![tactic(auto)]
+
 use anyhow::anyhow;
 use driver::attach::attach;
 use least::step::Step;

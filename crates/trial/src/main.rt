@@ -1,4 +1,6 @@
 // Writes planned and run over a plain image and over a driver on a bench chip: the same steps, cost and bytes.
+#![tactic(auto)]
+
 mod trials;
 
 use anyhow::anyhow;

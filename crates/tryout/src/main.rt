@@ -1,4 +1,6 @@
 // A driver tried on every chip, on both sides of a bus: cycles, polls and reads, and what came of them.
+#![tactic(auto)]
+
 use anyhow::anyhow;
 use driver::attach::attach;
 use driver::driver::Driver;

@@ -1,4 +1,4 @@
-use Rattle.std.proofs.Common.{◌≡◌, ◌+◌, ◌%◌, [], map, length, drop, Some, sym, ap, ◌∙◌, arith, length-set}
+use Rattle.std.proofs.Common.{◌≡◌, ◌+◌, ◌%◌, [], map, length, Some, sym, ap, ◌∙◌, arith, length-set}
 use Rattle.std.proofs.lemmas.List.{at_drop_all}
 use Rattle.memory.specs.Page.{laid, cover}
 use Rattle.memory.proofs.Loops.{cover-laid, length-cover_none, laid_more}
@@ -6,7 +6,7 @@ use Rattle.memory.proofs.page.lay.Goals as goal
 
 pub loop-i-init : goal.loop-i-init
 loop-i-init c =
-    let e = c.nothing-sent-places.ensures in
+    let e = c.nothing_sent-places.ensures in
     let z : c.args.at + 0 ≡ c.args.at = omega arith in (
       ap length e ∙ length-cover_none 64,
       ap (λ p. laid 64 p (c.args.at + 0) (map Some c.args.sent.now)) e

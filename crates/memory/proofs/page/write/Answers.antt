@@ -1,4 +1,4 @@
-use Rattle.std.proofs.Common.{◌≡◌, ℕ, ◌+◌, ◌-◌, ◌*◌, ◌/◌, ◌%◌, ◌<◌, length, take, drop, sym, ap, ◌∙◌, arith, length-drop, length-take}
+use Rattle.std.proofs.Common.{◌≡◌, ◌+◌, ◌-◌, ◌*◌, ◌/◌, ◌%◌, length, take, drop, ap, ◌∙◌, arith, length-drop, length-take}
 use Rattle.memory.specs.Image.{rule}
 use Rattle.memory.specs.Page.{page, cover, merged, put}
 use Rattle.memory.proofs.Covers.{length_merged}
@@ -17,4 +17,4 @@ returns c =
     let l : length c.merge.new.bytes ≡ a + 64 - a =
     ap length m ∙ length_merged f (page 64 (c.args.address / 64) image) (cover 64 (c.args.address % 64) c.args.sent.now)
     ∙ simp (length-take, length-drop) (omega arith) in
-    record { after = put_mid_lem a (a + 64 - a) c.merge.new.bytes image l ∙ ap (λ x. put a x image) m; bytes = λ i. omega (arith, c.type-inv.image i) }
+    record { after = put_mid_lem a (a + 64 - a) c.merge.new.bytes image l ∙ ap (λ x. put a x image) m; bytes = λ i. omega (arith, c.type_inv.image i) }

@@ -1,4 +1,4 @@
-use Rattle.std.proofs.Common.{◌<◌, arith}
+use Rattle.std.proofs.Common.{arith}
 use Rattle.memory.proofs.Sizes.{product_some}
 use Rattle.memory.proofs.image.Image.read.Goals as goal
 
