@@ -5,9 +5,9 @@ use Rattle.least.proofs.Windows.{window_is}
 use Rattle.least.proofs.window.window.Goals as goal
 
 -- src/window.rt:27:9
-pub returns-in-default : goal.returns-in-default
-returns-in-default c =
-    record { value = window_is _ _ _ _ refl c.in-default.ensures; words = c.in-default.ensures }
+pub returns-in_default : goal.returns-in_default
+returns-in_default c =
+    record { value = window_is _ _ _ _ refl c.in_default.ensures; words = c.in_default.ensures }
 
 pub loop-place-init : goal.loop-place-init
 loop-place-init c =

@@ -32,6 +32,6 @@ returns c =
     let k : 1 + i.address + i.dummy + length part ≡ 0 + length f = ap (λ x. 1 + i.address + i.dummy + length x) t ∙ omega arith in
     record {
       result = ap Ok e ∙ sym (cond-true _ _ _ (le-leb _ _ short));
-      bytes = c.lay-out.ensures ∙ ap₂ (λ x y. x ++ drop y into) (ap (headed i c.args.address) t ∙ sym b) k;
+      bytes = c.lay_out.ensures ∙ ap₂ (λ x y. x ++ drop y into) (ap (headed i c.args.address) t ∙ sym b) k;
       understood = understood;
     }

@@ -11,5 +11,5 @@ returns-in-len4-up c =
     let n : 4 ≤ length s = search rules in
     let l : 3 ≤ length (drop 1 s) = simp length-drop (omega arith) in
     c.shape-in-len4-up.ensures
-    ∙ ap₂ (shaped_by (lookup table (get_or s 0 0)) (length s - 1) c.args.wanted) (c.address-of.ensures ∙ sym (address_long s l)) (take_rest s 4 ∙ sym (data_long s l))
+    ∙ ap₂ (shaped_by (lookup table (get_or s 0 0)) (length s - 1) c.args.wanted) (c.address_of.ensures ∙ sym (address_long s l)) (take_rest s 4 ∙ sym (data_long s l))
     ∙ sym (ordered_is s c.args.wanted (omega arith))

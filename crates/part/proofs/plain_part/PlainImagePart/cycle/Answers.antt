@@ -28,12 +28,12 @@ returns-in-Some c =
       intact = λ _. tt;
     }
 
-pub returns-then-not-is-clean-for : goal.returns-then-not-is-clean-for
-returns-then-not-is-clean-for c =
+pub returns-then-not-is_clean_for : goal.returns-then-not-is_clean_for
+returns-then-not-is_clean_for c =
     let m = plainly c.args.self.now in
     let n = length c.args.data.now in
-    let v = sym (c.in-default.ensures.value ∙ outlines_cycle c.outline.result m c.args.kind c.args.address n c.outline.ensures) in
-    let d = sym c.if-not-is-clean-for.ensures in
+    let v = sym (c.in_default.ensures.value ∙ outlines_cycle c.outline.result m c.args.kind c.args.address n c.outline.ensures) in
+    let d = sym c.if-not-is_clean_for.ensures in
     record {
       result = ap told (sym (soiled m.shape (protected_at m) (idle m) c.args.kind c.args.address n false v (preset_only c.args.kind (clean_at m c.args.address) d)));
       verdict = λ _. ap told (sym (soiled m.shape (protected_at m) (idle m) c.args.kind c.args.address n (clean_at m c.args.address) v d));
@@ -52,8 +52,8 @@ returns c =
     let m = plainly p in
     let n = length c.args.data.now in
     let y = cycle_of c.args.kind c.args.address c.args.data.now in
-    let v = sym (c.in-default.ensures.value ∙ outlines_cycle c.outline.result m c.args.kind c.args.address n c.outline.ensures) in
-    let d = done_all m.shape (protected_at m) (idle m) c.args.kind c.args.address n (clean_at m c.args.address) v (sym c.if-not-is-clean-for.ensures) in
+    let v = sym (c.in_default.ensures.value ∙ outlines_cycle c.outline.result m c.args.kind c.args.address n c.outline.ensures) in
+    let d = done_all m.shape (protected_at m) (idle m) c.args.kind c.args.address n (clean_at m c.args.address) v (sym c.if-not-is_clean_for.ensures) in
     let passes = all_passed m.shape (protected_at m) (idle m) c.args.kind c.args.address n true v in
     let w : length (vec_items p.image.bytes) ≡ size (shape_of p.image) = sym p.image.bytes.ok.0 ∙ p.image.sized in
     let s = c.carry.ensures.shape in

@@ -17,7 +17,7 @@ pub returns : goal.returns
 returns c =
     let p = c.args.self.now in
     let n = length c.args.into.now in
-    let v = c.in-default.ensures ∙ outlines_read c.outline.result (plainly p) c.args.address n c.outline.ensures in
+    let v = c.in_default.ensures ∙ outlines_read c.outline.result (plainly p) c.args.address n c.outline.ensures in
     let i = read-inside (shape_of p.image) (idle (plainly p)) c.args.address n (sym v) in
     let w : length (vec_items p.image.bytes) ≡ size (shape_of p.image) = sym p.image.bytes.ok.0 ∙ p.image.sized in
     record {
