@@ -2,7 +2,7 @@
 ghost use Rattle.std.specs.Prelude.{◌≡◌, [], ◌++◌};
 ghost use Rattle.driver.specs.Means.{DriverIntact, driver_meaning, DriverTrace};
 ghost use Rattle.driver.specs.Seeing.{seen-sound};
-ghost use Rattle.driver.specs.Driven.{drives-none, drives-++};
+ghost use Rattle.driver.specs.Driven.{drives_none, drives-++};
 
 use crate::cycle::{is_clean_for, send};
 use crate::driver::Driver;
@@ -22,7 +22,7 @@ impl<P: Port> Part for Driver<P> {
 
     ghost sound = { λ s. seen-sound s.outline (P.Port.chip s.port) (P.Port.sound s.port).0 };
 
-    ghost stays = { λ s. ([], P.Port.stays s.port, drives-none s.outline (P.Port.chip s.port)) };
+    ghost stays = { λ s. ([], P.Port.stays s.port, drives_none s.outline (P.Port.chip s.port)) };
 
     ghost joins = { λ a b c l m p q. (
       p.0 ++ q.0,

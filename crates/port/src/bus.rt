@@ -2,7 +2,7 @@
 ghost use Rattle.std.specs.Prelude.{◌≡◌, min};
 ghost use Rattle.std.proofs.Common.{◌∙◌, rules};
 ghost use Rattle.port.specs.Bus.{OnSide, by_side};
-ghost use Rattle.port.specs.Sides.{on-side};
+ghost use Rattle.port.specs.Sides.{on_side};
 
 use crate::fault::PortFault;
 use crate::port::Port;
@@ -57,7 +57,7 @@ impl<L: Port, R: Port> Port for Bus<L, R> {
 
     ghost joins = { λ a b c l m p q. (
       p.0 ∙ q.0,
-      on-side a.chosen b.chosen p.0 p.1 q.1
+      on_side a.chosen b.chosen p.0 p.1 q.1
           (λ x y. (x.0 ∙ y.0, L.Port.joins _ _ _ _ _ x.1 y.1))
           (λ x y. (x.0 ∙ y.0, R.Port.joins _ _ _ _ _ x.1 y.1)),
     ) };

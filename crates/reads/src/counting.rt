@@ -4,7 +4,7 @@ ghost use Rattle.memory.specs.Shape.{size};
 ghost use Rattle.least.specs.Fewest.{largest};
 ghost use Rattle.planner.specs.Looking.{asked_bytes};
 ghost use Rattle.reads.specs.CountingPartLemmas.{stayed, joined};
-ghost use Rattle.planner.proofs.Lookings.{asked-join};
+ghost use Rattle.planner.proofs.Lookings.{asked_join};
 ghost use Rattle.std.proofs.Common.{rules};
 
 use least::step::Step;
@@ -33,7 +33,7 @@ impl<P: Part> Part for Counting<P> {
 
     ghost joins = { λ a b c l m p q. (
       P.Part.joins a.inner b.inner c.inner l m p.0 q.0,
-      joined a.asked b.asked c.asked (asked_bytes l) (asked_bytes m) _ p.1 q.1 (asked-join l m),
+      joined a.asked b.asked c.asked (asked_bytes l) (asked_bytes m) _ p.1 q.1 (asked_join l m),
     ) };
 
     fn sectors(&self) -> usize {
