@@ -71,8 +71,8 @@ pub(crate) fn text_len(steps: &[Step], data: &[u8]) -> u128
 
 // Writes the line of a frame's bytes, with nothing wanted back, from `at` on, and gives the place after it.
 fn put_bytes(sent: &[u8], into: &mut [u8], at: usize) -> usize
-    requires sent_nonzero { 0 < length sent.now }
-    requires sent_in_bounds { at + length (line_text (exchange sent.now 0)) ≤ length into.old }
+    requires some { 0 < length sent.now }
+    requires room { at + length (line_text (exchange sent.now 0)) ≤ length into.old }
     ensures place { result ≡ at + length (line_text (exchange sent.now 0)) }
     ensures buffer { into.new ≡ laid at (line_text (exchange sent.now 0)) into.old }
 {
@@ -86,8 +86,8 @@ fn put_bytes(sent: &[u8], into: &mut [u8], at: usize) -> usize
 
 // Builds a frame, writes its line from `at` on, and gives the place after it.
 fn put_frame(operation: Operation, address: usize, data: &[u8], into: &mut [u8], at: usize) -> usize
-    requires data_len_bound { length (built operation address «data».now) ≤ 68 }
-    requires data_in_bounds { at + length (line_text (exchange (built operation address «data».now) 0)) ≤ length into.old }
+    requires short { length (built operation address «data».now) ≤ 68 }
+    requires room { at + length (line_text (exchange (built operation address «data».now) 0)) ≤ length into.old }
     ensures place { result ≡ at + length (line_text (exchange (built operation address «data».now) 0)) }
     ensures buffer { into.new ≡ laid at (line_text (exchange (built operation address «data».now) 0)) into.old }
 {
@@ -100,8 +100,8 @@ fn put_frame(operation: Operation, address: usize, data: &[u8], into: &mut [u8],
 
 // Writes the two lines of a step from `at` on, and gives the place after them.
 fn put_step(step: &Step, data: &[u8], into: &mut [u8], at: usize) -> usize
-    requires step_value { unlisted «data».now step.now ≡ None }
-    requires step_in_bounds { at + length (plan_text «data».now (step.now ∷ [])) ≤ length into.old }
+    requires listable { unlisted «data».now step.now ≡ None }
+    requires room { at + length (plan_text «data».now (step.now ∷ [])) ≤ length into.old }
     ensures place { result ≡ at + length (plan_text «data».now (step.now ∷ [])) }
     ensures buffer { into.new ≡ laid at (plan_text «data».now (step.now ∷ [])) into.old }
 {
@@ -112,8 +112,8 @@ fn put_step(step: &Step, data: &[u8], into: &mut [u8], at: usize) -> usize
 
 // Writes the text of a plan that fits at the start of the buffer, and gives its length.
 pub(crate) fn put_steps(steps: &[Step], data: &[u8], into: &mut [u8]) -> usize
-    requires steps_value { first_unlisted «data».now steps.now ≡ None }
-    requires steps_in_bounds { length (plan_text «data».now steps.now) ≤ length into.old }
+    requires listable { first_unlisted «data».now steps.now ≡ None }
+    requires room { length (plan_text «data».now steps.now) ≤ length into.old }
     ensures place { result ≡ length (plan_text «data».now steps.now) }
     ensures buffer { into.new ≡ laid 0 (plan_text «data».now steps.now) into.old }
 {

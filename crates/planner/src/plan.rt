@@ -24,7 +24,7 @@ fn plan_inside<P: Part>(
     data: &mut [u8],
 ) -> Result<(usize, usize), PlanFault>
     requires fitting { Fitting (P.Part.meaning part.old) write.address write.bytes.now }
-    requires by_index { (i : ℕ) → slice_index write.bytes.now i < 256 }
+    requires byte { (i : ℕ) → slice_index write.bytes.now i < 256 }
     ensures looked { LookedBy P.Part.meaning P.Part.trace P.Part.intact (3 * whole (P.Part.meaning part.old)) part.old part.new }
     ensures unplanned { is_ok result ≡ false → (steps.new ≡ steps.old) × («data».new ≡ «data».old) }
     ensures room { IfOk result (λ cost. (cost.0 ≤ length steps.old) × (cost.1 ≤ length «data».old)) }

@@ -31,8 +31,8 @@ pub(crate) fn put_page(
     page: &[u8],
     window: Option<(usize, usize)>,
 ) -> (usize, usize)
-    requires kind_value { (of_page kind ≡ true) × (length page.now ≡ 64) × (q < 2 ^ 32) × (at.0 ≤ length steps.old) × (at.1 ≤ length «data».old) }
-    requires some { IfSome window (λ w. w.0 < 64) }
+    requires room { (of_page kind ≡ true) × (length page.now ≡ 64) × (q < 2 ^ 32) × (at.0 ≤ length steps.old) × (at.1 ≤ length «data».old) }
+    requires start { IfSome window (λ w. w.0 < 64) }
     ensures sent { Sent (sending (cycle_of kind) 64 q page.now window) steps.old steps.new «data».old «data».new at result }
     ensures bound { (result.0 ≤ length steps.old) × (result.1 ≤ length «data».old) }
 {

@@ -15,11 +15,19 @@ ranged s p e =
     let b = and_parts _ _ a.1 in
     let c = and_parts _ _ b.1 in (ltb-true _ _ a.0, leb-true _ _ b.0, ltb-true _ _ c.0, leb-true _ _ c.1)
 
-pub invariant-of-result : goal.invariant-of-result
-invariant-of-result g c =
+pub invariant_of-result : goal.invariant_of-result
+invariant_of-result g c =
     let m = c.in-Some.model in
     let r = ranged m.sectors m.pages (models_ranged c.capacity.result m (sym c.in-Some.ensures)) in
-    (r.0, (r.1, (r.2, (r.3, (product_most m.sectors m.pages r.1 r.3, (omega arith, (omega (arith, c.status-byte.type-inv), tt)))))))
+    record {
+      some = r.0;
+      few = r.1;
+      paged = r.2;
+      low = r.3;
+      small = product_most m.sectors m.pages r.1 r.3;
+      steady = omega arith;
+      byte = omega (arith, c.status-byte.type_inv);
+    }
 
 pub returns : goal.returns
 returns g c =

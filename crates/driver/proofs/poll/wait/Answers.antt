@@ -22,32 +22,32 @@ loop-made-init g c = (omega arith, lowered_none _, g.met.P.Port.stays c.args.por
 pub loop-made-preserved : goal.loop-made-preserved
 loop-made-preserved g c =
     let i = c.loop-made.invariant in
-    let b = eqb-false _ _ (not-true _ (sym c.if-not-is-busy.ensures.busy)) in
-    let n : (g.P.Port.chip c.loop-made.port).busy ≡ (g.P.Port.chip c.args.port.now).busy - c.loop-made.-made = ap (λ (x : Chip). x.busy) i.1 in (
+    let b = eqb-false _ _ (not-true _ (sym c.if-not-is_busy.ensures.busy)) in
+    let n : (g.P.Port.chip c.loop-made.port).busy ≡ (g.P.Port.chip c.args.port.now).busy - c.loop-made._made = ap (λ (x : Chip). x.busy) i.1 in (
       omega arith,
-      c.is-busy.ensures.chip ∙ lowered_more c.loop-made.-made (g.P.Port.chip c.args.port.now) _ i.1,
-      more g _ _ _ c.loop-made.-made i.2 c.is-busy.ensures.trace,
+      c.is_busy.ensures.chip ∙ lowered_more c.loop-made._made (g.P.Port.chip c.args.port.now) _ i.1,
+      more g _ _ _ c.loop-made._made i.2 c.is_busy.ensures.trace,
     )
 
-pub returns-then-not-is-busy : goal.returns-then-not-is-busy
-returns-then-not-is-busy g c =
+pub returns-then-not-is_busy : goal.returns-then-not-is_busy
+returns-then-not-is_busy g c =
     let i = c.loop-made.invariant in
     let chip = g.P.Port.chip c.args.port.now in
-    let b = eqb-true _ _ (not-false _ (sym c.if-not-is-busy.ensures.busy)) in
-    let n : (g.P.Port.chip c.loop-made.port).busy ≡ chip.busy - c.loop-made.-made = ap (λ (x : Chip). x.busy) i.1 in
-    let m : c.loop-made.-made + 1 ≡ min c.args.limit (chip.busy + 1) = omega (arith, i.0) in
-    let T : ℕ → Type 0 = λ k. g.P.Port.trace c.args.port.now c.is-busy.new.port (replicate k status_frame) in
+    let b = eqb-true _ _ (not-false _ (sym c.if-not-is_busy.ensures.busy)) in
+    let n : (g.P.Port.chip c.loop-made.port).busy ≡ chip.busy - c.loop-made._made = ap (λ (x : Chip). x.busy) i.1 in
+    let m : c.loop-made._made + 1 ≡ min c.args.limit (chip.busy + 1) = omega (arith, i.0) in
+    let T : ℕ → Type 0 = λ k. g.P.Port.trace c.args.port.now c.is_busy.new.port (replicate k status_frame) in
     record {
       idle = sym (lt-ltb _ _ (omega (arith, i.0)));
-      chip = c.is-busy.ensures.chip ∙ lowered_more c.loop-made.-made chip _ i.1 ∙ ap (λ k. lowered k chip) m;
-      trace = subst T m (more g _ _ _ c.loop-made.-made i.2 c.is-busy.ensures.trace);
+      chip = c.is_busy.ensures.chip ∙ lowered_more c.loop-made._made chip _ i.1 ∙ ap (λ k. lowered k chip) m;
+      trace = subst T m (more g _ _ _ c.loop-made._made i.2 c.is_busy.ensures.trace);
     }
 
 pub returns : goal.returns
 returns g c =
     let i = c.loop-made.invariant in
     let chip = g.P.Port.chip c.args.port.now in
-    let m : c.loop-made.-made ≡ min c.args.limit (chip.busy + 1) = omega (arith, i.0) in
+    let m : c.loop-made._made ≡ min c.args.limit (chip.busy + 1) = omega (arith, i.0) in
     let T : ℕ → Type 0 = λ k. g.P.Port.trace c.args.port.now c.loop-made.port (replicate k status_frame) in
     record {
       idle = sym (le-ltb _ _ (omega (arith, i.0)));

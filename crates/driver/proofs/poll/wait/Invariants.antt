@@ -5,6 +5,6 @@ use Rattle.driver.proofs.poll.wait.Given as goal
 
 abbrev pub invariant-loop-made : goal.invariant-loop-made
 invariant-loop-made g l =
-    (l.-made ≤ (g.P.Port.chip l.initial.port).busy)
-    × (g.P.Port.chip l.port ≡ lowered l.-made (g.P.Port.chip l.initial.port))
-    × g.P.Port.trace l.initial.port l.port (replicate l.-made status_frame)
+    (l._made ≤ (g.P.Port.chip l.initial.port).busy)
+    × (g.P.Port.chip l.port ≡ lowered l._made (g.P.Port.chip l.initial.port))
+    × g.P.Port.trace l.initial.port l.port (replicate l._made status_frame)

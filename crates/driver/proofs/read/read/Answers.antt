@@ -20,7 +20,7 @@ ask-requires g c =
     let l = length-read (c.args.address + d) in
     let p : length (take (d + m - d) (drop d c.loop-done.into)) ≤ m = simp (length-take, length-drop) (omega arith) in
     let s = (g.met.P.Port.sound c.args.port.now).1 in
-    let r = c.longest-frame-room.ensures in
+    let r = c.longest_frame-room.ensures in
     let i = c.loop-done.invariant.2 in
     (omega arith, omega arith)
 
@@ -31,14 +31,14 @@ loop-done-preserved g c =
     let d : ℕ = c.loop-done.done in
     let m : ℕ = c.min-n.result in
     let i = c.loop-done.invariant in
-    let room : ℕ = c.longest-frame-room.result - 4 in
+    let room : ℕ = c.longest_frame-room.result - 4 in
     let chip : Chip = g.P.Port.chip c.loop-done.port in
     let into : List ℕ = c.loop-done.into in
     let back : List ℕ = c.ask.new.back in
     let e = c.min-n.ensures in
     let k = c.loop-done.auto.into in
     let s = (g.met.P.Port.sound c.args.port.now).1 in
-    let r = c.longest-frame-room.ensures in
+    let r = c.longest_frame-room.ensures in
     let q = c.requires in
     let p : length (take (d + m - d) (drop d into)) ≡ m = simp (length-take, length-drop) (omega arith) in
     let w : m ≡ min room (n - d) = omega arith in
@@ -73,12 +73,12 @@ returns g c =
     let n : ℕ = length c.args.into.now in
     let d : ℕ = c.loop-done.done in
     let i = c.loop-done.invariant in
-    let room : ℕ = c.longest-frame-room.result - 4 in
+    let room : ℕ = c.longest_frame-room.result - 4 in
     let z : d ≡ n = omega (arith, i.0) in
     let T : List Frame → Type 0 = λ fs. g.P.Port.trace c.args.port.now c.loop-done.port fs in
     let e : i.3.0 ≡ reads room a n =
     sym (append-nil i.3.0) ∙ ap (λ x. i.3.0 ++ x) (sym (reads-done room (a + d) (n - d) (omega arith))) ∙ i.3.2 in
-    let f : reads room a n ≡ reads (g.P.Port.longest c.args.port.now - 4) a n = ap (λ x. reads (x - 4) a n) c.longest-frame-room.ensures in
+    let f : reads room a n ≡ reads (g.P.Port.longest c.args.port.now - 4) a n = ap (λ x. reads (x - 4) a n) c.longest_frame-room.ensures in
     record {
       bytes = λ b h. sym (take_all d c.loop-done.into (omega arith)) ∙ i.4 b h ∙ ap (λ x. block a x (g.P.Port.chip c.args.port.now).image) z;
       chip = i.1;

@@ -4,10 +4,10 @@ use Rattle.listing.specs.Values.{values, good}
 use Rattle.listing.proofs.Spelling.{values_none, value_turn}
 use Rattle.listing.proofs.pairs.copy_values.Goals as goal
 
-pub returns-in-default : goal.returns-in-default
-returns-in-default c =
+pub returns-in_default : goal.returns-in_default
+returns-in_default c =
     let t = c.args.pairs.now in
-    let n = ap length (c.loop-i.invariant.0 ∙ ap good (values_none t c.loop-i.at (sym c.in-default.ensures.value))) in
+    let n = ap length (c.loop-i.invariant.0 ∙ ap good (values_none t c.loop-i.at (sym c.in_default.ensures.value))) in
     let m = length-drop c.loop-i.i (good (values 0 t)) in
     absurd (omega arith)
 

@@ -3,10 +3,10 @@ use Rattle.listing.specs.Values.{values, tallied}
 use Rattle.listing.proofs.Spelling.{values_none, values_last, values_more, values-broken, tallied-before}
 use Rattle.listing.proofs.pairs.count_pairs.Goals as goal
 
-pub returns-in-default : goal.returns-in-default
-returns-in-default c =
+pub returns-in_default : goal.returns-in_default
+returns-in_default c =
     let t = c.args.pairs.now in
-    sym (c.loop-count.invariant.0 ∙ ap (tallied c.loop-count.count) (values_none t c.loop-count.at (sym c.in-default.ensures.value)))
+    sym (c.loop-count.invariant.0 ∙ ap (tallied c.loop-count.count) (values_none t c.loop-count.at (sym c.in_default.ensures.value)))
 
 pub returns-then-at-pairs : goal.returns-then-at-pairs
 returns-then-at-pairs c =

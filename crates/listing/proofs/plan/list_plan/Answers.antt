@@ -16,7 +16,7 @@ returns-in-Some c =
     record {
       answer = ap (λ o. answered o (plan_text d s) (length c.args.into.now)) e;
       buffer = ap (λ o. kept o (plan_text d s) c.args.into.now) e;
-      reads = plan-reads d s (λ i. omega (arith, c.type-inv.data i));
+      reads = plan-reads d s (λ i. omega (arith, c.type_inv.data i));
       effect = has_effect (cycles_of d s);
     }
 
@@ -25,12 +25,12 @@ returns-then-into-needed c =
     let d = c.args.data.now in
     let s = c.args.steps.now in
     let l = c.args.into.now in
-    let e = c.in-default.ensures in
+    let e = c.in_default.ensures in
     let h : length l < length (plan_text d s) = omega arith in
     record {
-      answer = ap (λ n. Err (TextShort n)) c.text-len-needed.ensures ∙ sym (answer-short (plan_text d s) (length l) h) ∙ ap (λ o. answered o (plan_text d s) (length l)) e;
+      answer = ap (λ n. Err (TextShort n)) c.text_len-needed.ensures ∙ sym (answer-short (plan_text d s) (length l) h) ∙ ap (λ o. answered o (plan_text d s) (length l)) e;
       buffer = sym (over-short (plan_text d s) l h) ∙ ap (λ o. kept o (plan_text d s) l) e;
-      reads = plan-reads d s (λ i. omega (arith, c.type-inv.data i));
+      reads = plan-reads d s (λ i. omega (arith, c.type_inv.data i));
       effect = has_effect (cycles_of d s);
     }
 
@@ -39,11 +39,11 @@ returns c =
     let d = c.args.data.now in
     let s = c.args.steps.now in
     let l = c.args.into.now in
-    let e = c.in-default.ensures in
+    let e = c.in_default.ensures in
     let h : length (plan_text d s) ≤ length l = omega arith in
     record {
-      answer = ap (λ n. Ok n) c.put-steps.ensures.place ∙ sym (answer-fits (plan_text d s) (length l) h) ∙ ap (λ o. answered o (plan_text d s) (length l)) e;
-      buffer = c.put-steps.ensures.buffer ∙ laid_start (plan_text d s) l ∙ sym (over-fits (plan_text d s) l h) ∙ ap (λ o. kept o (plan_text d s) l) e;
-      reads = plan-reads d s (λ i. omega (arith, c.type-inv.data i));
+      answer = ap (λ n. Ok n) c.put_steps.ensures.place ∙ sym (answer-fits (plan_text d s) (length l) h) ∙ ap (λ o. answered o (plan_text d s) (length l)) e;
+      buffer = c.put_steps.ensures.buffer ∙ laid_start (plan_text d s) l ∙ sym (over-fits (plan_text d s) l h) ∙ ap (λ o. kept o (plan_text d s) l) e;
+      reads = plan-reads d s (λ i. omega (arith, c.type_inv.data i));
       effect = has_effect (cycles_of d s);
     }

@@ -5,17 +5,17 @@ use Rattle.listing.specs.Writing.{line_text, laid}
 use Rattle.listing.proofs.Planned.{first_rest}
 use Rattle.listing.proofs.plan_text.put_bytes.Goals as goal
 
-pub put-line-requires : goal.put-line-requires
-put-line-requires c =
+pub put_line-requires : goal.put_line-requires
+put_line-requires c =
     let w = c.args.sent.now in
-    let e : get_or w 0 0 ∷ take (length w - 1) (drop 1 w) ≡ w = ap (λ x. get_or w 0 0 ∷ x) (take_rest w 1) ∙ first_rest w c.requires.0 in
+    let e : get_or w 0 0 ∷ take (length w - 1) (drop 1 w) ≡ w = ap (λ x. get_or w 0 0 ∷ x) (take_rest w 1) ∙ first_rest w c.requires.some in
     let m = ap (λ x. length (line_text (exchange x 0))) e in omega arith
 
 pub returns : goal.returns
 returns c =
     let w = c.args.sent.now in
-    let e : get_or w 0 0 ∷ take (length w - 1) (drop 1 w) ≡ w = ap (λ x. get_or w 0 0 ∷ x) (take_rest w 1) ∙ first_rest w c.requires.0 in
+    let e : get_or w 0 0 ∷ take (length w - 1) (drop 1 w) ≡ w = ap (λ x. get_or w 0 0 ∷ x) (take_rest w 1) ∙ first_rest w c.requires.some in
     record {
-      place = c.put-line.ensures.place ∙ ap (λ x. c.args.at + length (line_text (exchange x 0))) e;
-      buffer = c.put-line.ensures.buffer ∙ ap (λ x. laid c.args.at (line_text (exchange x 0)) c.args.into.now) e;
+      place = c.put_line.ensures.place ∙ ap (λ x. c.args.at + length (line_text (exchange x 0))) e;
+      buffer = c.put_line.ensures.buffer ∙ ap (λ x. laid c.args.at (line_text (exchange x 0)) c.args.into.now) e;
     }

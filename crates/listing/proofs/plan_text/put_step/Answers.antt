@@ -11,17 +11,17 @@ use Rattle.listing.proofs.plan_text.put_step.Goals as goal
 enable-line : length (line_text enabling) ≡ 3
 enable-line = let e = enable-size in let a = line-bytes (built WriteEnable 0 []) (some_bytes WriteEnable 0 []) in omega arith
 
-pub put-frame-place-requires : goal.put-frame-place-requires
-put-frame-place-requires c =
+pub put_frame-place-requires : goal.put_frame-place-requires
+put_frame-place-requires c =
     let t = step-size c.args.data.now c.args.step.now in
     let e = enable-size in
-    let a = enable-line in (omega arith, omega arith)
+    let a = enable-line in record { short = omega arith; room = omega arith }
 
-pub put-frame-requires : goal.put-frame-requires
-put-frame-requires c =
+pub put_frame-requires : goal.put_frame-requires
+put_frame-requires c =
     let a = enable-line in
-    let b = built-size c.args.data.now c.args.step.now c.operation-of.result c.sent-by-sent.result.now c.operation-of.ensures c.sent-by-sent.ensures c.requires.0 in
-    (b.0, omega arith)
+    let b = built-size c.args.data.now c.args.step.now c.operation_of.result c.sent_by-sent.result.now c.operation_of.ensures c.sent_by-sent.ensures c.requires.listable in
+    record { short = b.0; room = omega arith }
 
 pub returns : goal.returns
 returns c =
@@ -29,15 +29,15 @@ returns c =
     let s = c.args.step.now in
     let l = c.args.into.now in
     let a = enable-line in
-    let b = built-size d s c.operation-of.result c.sent-by-sent.result.now c.operation-of.ensures c.sent-by-sent.ensures c.requires.0 in
-    let f = built_for d s c.operation-of.result c.sent-by-sent.result.now c.operation-of.ensures c.sent-by-sent.ensures in
+    let b = built-size d s c.operation_of.result c.sent_by-sent.result.now c.operation_of.ensures c.sent_by-sent.ensures c.requires.listable in
+    let f = built_for d s c.operation_of.result c.sent_by-sent.result.now c.operation_of.ensures c.sent_by-sent.ensures in
     let F = line_text (sending (step_cycle d s)) in
     let n = ap (λ x. length (line_text x)) f in
     record {
       place = omega arith;
       buffer =
-          c.put-frame.ensures.buffer
-          ∙ ap₂ (λ x y. laid c.put-frame-place.result (line_text x) y) f c.put-frame-place.ensures.buffer
-          ∙ laid_join c.args.at c.put-frame-place.result (line_text enabling) F l c.put-frame-place.ensures.place (omega arith)
+          c.put_frame.ensures.buffer
+          ∙ ap₂ (λ x y. laid c.put_frame-place.result (line_text x) y) f c.put_frame-place.ensures.buffer
+          ∙ laid_join c.args.at c.put_frame-place.result (line_text enabling) F l c.put_frame-place.ensures.place (omega arith)
           ∙ ap (λ y. laid c.args.at y l) (sym (step-text d s));
     }

@@ -12,16 +12,16 @@ loop-step-init c = (
   sym (ap (λ y. laid 0 y c.args.into.now) (text_none c.args.data.now) ∙ laid_none 0 c.args.into.now),
 )
 
-pub put-step-at-requires : goal.put-step-at-requires
-put-step-at-requires c = (
-  unlisted_at c.args.data.now c.args.steps.now c.loop-step.step-index _ c.requires.0 c.loop-step-test.true,
-  text_room c.args.data.now c.args.steps.now c.loop-step.step-index _ c.loop-step.at (length c.loop-step.into) c.loop-step-test.true c.loop-step.invariant.0 (omega arith),
-)
+pub put_step-at-requires : goal.put_step-at-requires
+put_step-at-requires c = record {
+  listable = unlisted_at c.args.data.now c.args.steps.now c.loop-step.step-index _ c.requires.listable c.loop-step-test.true;
+  room = text_room c.args.data.now c.args.steps.now c.loop-step.step-index _ c.loop-step.at (length c.loop-step.into) c.loop-step-test.true c.loop-step.invariant.0 (omega arith);
+}
 
 pub loop-step-preserved : goal.loop-step-preserved
 loop-step-preserved c =
-    text-laid c.args.data.now c.args.steps.now c.loop-step.step-index _ c.loop-step.at c.put-step-at.result c.args.into.now c.loop-step.into c.put-step-at.new.into
-    c.loop-step-test.true c.requires.1 c.loop-step.invariant.0 c.loop-step.invariant.1 c.put-step-at.ensures.place c.put-step-at.ensures.buffer
+    text-laid c.args.data.now c.args.steps.now c.loop-step.step-index _ c.loop-step.at c.put_step-at.result c.args.into.now c.loop-step.into c.put_step-at.new.into
+    c.loop-step-test.true c.requires.room c.loop-step.invariant.0 c.loop-step.invariant.1 c.put_step-at.ensures.place c.put_step-at.ensures.buffer
 
 pub returns : goal.returns
 returns c =

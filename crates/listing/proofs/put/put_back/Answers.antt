@@ -18,6 +18,6 @@ returns c =
     record {
       place = omega arith;
       buffer =
-          back-laid c.args.at c.put-place.result c.args.back c.args.into.now c.put-place.new.into c.put-pair.new.into
-          c.if-back-eq0.false c.requires c.put-place.ensures.buffer c.put-place.ensures.place c.put-pair.ensures.buffer;
+          back-laid c.args.at c.put-place.result c.args.back c.args.into.now c.put-place.new.into c.put_pair.new.into
+          c.if-back-eq0.false c.requires c.put-place.ensures.buffer c.put-place.ensures.place c.put_pair.ensures.buffer;
     }

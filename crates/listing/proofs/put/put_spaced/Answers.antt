@@ -11,9 +11,9 @@ loop-byte-init c = (sym (laid_none c.args.at c.args.into.now), omega arith)
 pub loop-byte-preserved : goal.loop-byte-preserved
 loop-byte-preserved c = (
   spaced_turn c.args.at c.loop-byte.place c.put-place.result c.loop-byte.byte-index c.args.bytes.now
-      c.args.into.now c.loop-byte.into c.put-place.new.into c.put-pair-place.new.into
+      c.args.into.now c.loop-byte.into c.put-place.new.into c.put_pair-place.new.into
       c.loop-byte-test.true c.requires c.loop-byte.invariant.0 c.loop-byte.invariant.1
-      c.put-place.ensures.buffer c.put-place.ensures.place c.put-pair-place.ensures.buffer,
+      c.put-place.ensures.buffer c.put-place.ensures.place c.put_pair-place.ensures.buffer,
   omega arith,
 )
 

@@ -5,9 +5,9 @@ use Rattle.listing.proofs.Keeping.{kept_other, frame-kept, two_laid}
 use Rattle.listing.proofs.Laying.{laid_none}
 use Rattle.listing.proofs.rewrite.keep.Goals as goal
 
-pub returns-in-default : goal.returns-in-default
-returns-in-default c =
-    let e = kept_other (part_of c.args.line.first.item) c.kept.result (count_of c.args.line.count) c.in-default.is c.kept.ensures in
+pub returns-in_default : goal.returns-in_default
+returns-in_default c =
+    let e = kept_other (part_of c.args.line.first.item) c.kept.result (count_of c.args.line.count) c.in_default.is c.kept.ensures in
     let k = ap length e in
     record {
       place = omega arith;
@@ -19,8 +19,8 @@ put-end-requires c =
     let is = count_of c.args.line.count in
     let k = ap length (frame-kept (part_of c.args.line.first.item) c.kept.result c.in-Some.pairs is c.in-Some.is c.kept.ensures) ∙ length-append c.in-Some.pairs.now (kept_count is) in omega arith
 
-pub keep-count-requires : goal.keep-count-requires
-keep-count-requires c =
+pub keep_count-requires : goal.keep_count-requires
+keep_count-requires c =
     let is = count_of c.args.line.count in
     let k = ap length (frame-kept (part_of c.args.line.first.item) c.kept.result c.in-Some.pairs is c.in-Some.is c.kept.ensures) ∙ length-append c.in-Some.pairs.now (kept_count is) in omega arith
 
@@ -34,7 +34,7 @@ returns c =
     record {
       place = omega arith;
       buffer =
-          two_laid c.args.at c.put-end.result w (kept_count is) c.args.into.now c.put-end.new.into c.keep-count.new.into
-          c.put-end.ensures.buffer c.put-end.ensures.place c.keep-count.ensures.buffer (omega arith)
+          two_laid c.args.at c.put-end.result w (kept_count is) c.args.into.now c.put-end.new.into c.keep_count.new.into
+          c.put-end.ensures.buffer c.put-end.ensures.place c.keep_count.ensures.buffer (omega arith)
           ∙ ap (λ y. laid c.args.at y c.args.into.now) (sym e);
     }

@@ -4,8 +4,8 @@ use Rattle.listing.specs.Writing.{kept_count}
 use Rattle.listing.proofs.Keeping.{frame-kept}
 use Rattle.listing.proofs.rewrite.kept_len.Goals as goal
 
-pub overflow-add-result : goal.overflow-add-result
-overflow-add-result c =
+pub overflow_add-result : goal.overflow_add-result
+overflow_add-result c =
     let is = count_of c.args.line.count in
     let k = ap length (frame-kept (part_of c.args.line.first.item) c.kept.result c.in-Some.pairs is c.in-Some.is c.kept.ensures) ∙ length-append c.in-Some.pairs.now (kept_count is) in omega arith
 

@@ -14,31 +14,31 @@ loop-line-init c =
     let Q : List ℕ → Type 0 = λ s. Progress t 1 s 0 in
     subst P (sym c.new-reader.ensures.line) (subst Q (sym c.new-reader.ensures.rest) (progress_start t))
 
-pub returns-in-err-line : goal.returns-in-err-line
-returns-in-err-line c =
-    let h = c.in-err-line.ensures in
-    let p = err_from_is_err_and c.from-residual.result c.from-residual.ensures.1 in
-    rw (p.1, p.2) (record { measured = progress_fails c.in-err-line.field-0.0 h.0 c.loop-line.invariant h.1 h.2; unambiguous = unambiguous })
+pub returns-in_err-line : goal.returns-in_err-line
+returns-in_err-line c =
+    let h = c.in_err-line.ensures in
+    let p = err_from_is_err_and c.from_residual.result c.from_residual.ensures.1 in
+    rw (p.1, p.2) (record { measured = progress_fails c.in_err-line.field-0.0 h.0 c.loop-line.invariant h.1 h.2; unambiguous = unambiguous })
 
-pub kept-len-needed-requires : goal.kept-len-needed-requires
-kept-len-needed-requires c = let k = kept-fits c.loop-line.invariant (next_some c.loop-line.reader.line c.next-line.new.self.line c.loop-line.reader.rest.now c.next-line.new.self.rest.now
-    c.in-ok-line.field-0 c.in-Some.line c.in-Some.is c.in-ok-line.ensures) in omega arith
+pub kept_len-needed-requires : goal.kept_len-needed-requires
+kept_len-needed-requires c = let k = kept-fits c.loop-line.invariant (next_some c.loop-line.reader.line c.next_line.new.self.line c.loop-line.reader.rest.now c.next_line.new.self.rest.now
+    c.in_ok-line.field-0 c.in-Some.line c.in-Some.is c.in_ok-line.ensures) in omega arith
 
-pub overflow-add-needed : goal.overflow-add-needed
-overflow-add-needed c = let k = kept-fits c.loop-line.invariant (next_some c.loop-line.reader.line c.next-line.new.self.line c.loop-line.reader.rest.now c.next-line.new.self.rest.now
-    c.in-ok-line.field-0 c.in-Some.line c.in-Some.is c.in-ok-line.ensures) in omega arith
+pub overflow_add-needed : goal.overflow_add-needed
+overflow_add-needed c = let k = kept-fits c.loop-line.invariant (next_some c.loop-line.reader.line c.next_line.new.self.line c.loop-line.reader.rest.now c.next_line.new.self.rest.now
+    c.in_ok-line.field-0 c.in-Some.line c.in-Some.is c.in_ok-line.ensures) in omega arith
 
 pub loop-line-smaller : goal.loop-line-smaller
-loop-line-smaller c = taken_less (next_some c.loop-line.reader.line c.next-line.new.self.line c.loop-line.reader.rest.now c.next-line.new.self.rest.now
-    c.in-ok-line.field-0 c.in-Some.line c.in-Some.is c.in-ok-line.ensures)
+loop-line-smaller c = taken_less (next_some c.loop-line.reader.line c.next_line.new.self.line c.loop-line.reader.rest.now c.next_line.new.self.rest.now
+    c.in_ok-line.field-0 c.in-Some.line c.in-Some.is c.in_ok-line.ensures)
 
 pub loop-line-preserved : goal.loop-line-preserved
 loop-line-preserved c =
-    let P : ℕ → Type 0 = λ n. Progress c.args.text.now c.next-line.new.self.line c.next-line.new.self.rest.now (c.loop-line.needed + n) in
-    subst P (sym c.kept-len-needed.ensures) (progress_more c.loop-line.invariant (next_some c.loop-line.reader.line c.next-line.new.self.line c.loop-line.reader.rest.now c.next-line.new.self.rest.now
-    c.in-ok-line.field-0 c.in-Some.line c.in-Some.is c.in-ok-line.ensures))
+    let P : ℕ → Type 0 = λ n. Progress c.args.text.now c.next_line.new.self.line c.next_line.new.self.rest.now (c.loop-line.needed + n) in
+    subst P (sym c.kept_len-needed.ensures) (progress_more c.loop-line.invariant (next_some c.loop-line.reader.line c.next_line.new.self.line c.loop-line.reader.rest.now c.next_line.new.self.rest.now
+    c.in_ok-line.field-0 c.in-Some.line c.in-Some.is c.in_ok-line.ensures))
 
 pub returns : goal.returns
 returns c =
-    let e = next_none c.loop-line.reader.line c.next-line.new.self.line c.loop-line.reader.rest.now c.next-line.new.self.rest.now c.in-ok-line.field-0 c.in-default.is c.in-ok-line.ensures in
+    let e = next_none c.loop-line.reader.line c.next_line.new.self.line c.loop-line.reader.rest.now c.next_line.new.self.rest.now c.in_ok-line.field-0 c.in_default.is c.in_ok-line.ensures in
     record { measured = progress_end c.loop-line.invariant e; unambiguous = unambiguous }

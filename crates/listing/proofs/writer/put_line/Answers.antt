@@ -2,14 +2,14 @@ use Rattle.std.proofs.Common.{◌≡◌, ◌+◌, ◌≤◌, length, arith}
 use Rattle.listing.proofs.Laying.{line-size, line-laid}
 use Rattle.listing.proofs.writer.put_line.Goals as goal
 
-pub put-pair-at-requires : goal.put-pair-at-requires
-put-pair-at-requires c = let f = c.args.frame in let e = line-size f.code f.rest.now f.back in omega arith
+pub put_pair-at-requires : goal.put_pair-at-requires
+put_pair-at-requires c = let f = c.args.frame in let e = line-size f.code f.rest.now f.back in omega arith
 
-pub put-spaced-at-requires : goal.put-spaced-at-requires
-put-spaced-at-requires c = let f = c.args.frame in let e = line-size f.code f.rest.now f.back in omega arith
+pub put_spaced-at-requires : goal.put_spaced-at-requires
+put_spaced-at-requires c = let f = c.args.frame in let e = line-size f.code f.rest.now f.back in omega arith
 
-pub put-back-at-requires : goal.put-back-at-requires
-put-back-at-requires c = let f = c.args.frame in let e = line-size f.code f.rest.now f.back in omega arith
+pub put_back-at-requires : goal.put_back-at-requires
+put_back-at-requires c = let f = c.args.frame in let e = line-size f.code f.rest.now f.back in omega arith
 
 pub put-requires : goal.put-requires
 put-requires c = let f = c.args.frame in let e = line-size f.code f.rest.now f.back in omega arith
@@ -21,10 +21,10 @@ returns c =
     record {
       place = omega arith;
       buffer =
-          line-laid c.args.at c.put-pair-at.result c.put-spaced-at.result c.put-back-at.result f.code f.back f.rest.now
-          c.args.into.now c.put-pair-at.new.into c.put-spaced-at.new.into c.put-back-at.new.into c.put.new.into (omega arith)
-          c.put-pair-at.ensures.buffer c.put-pair-at.ensures.place
-          c.put-spaced-at.ensures.buffer c.put-spaced-at.ensures.place
-          c.put-back-at.ensures.buffer c.put-back-at.ensures.place
+          line-laid c.args.at c.put_pair-at.result c.put_spaced-at.result c.put_back-at.result f.code f.back f.rest.now
+          c.args.into.now c.put_pair-at.new.into c.put_spaced-at.new.into c.put_back-at.new.into c.put.new.into (omega arith)
+          c.put_pair-at.ensures.buffer c.put_pair-at.ensures.place
+          c.put_spaced-at.ensures.buffer c.put_spaced-at.ensures.place
+          c.put_back-at.ensures.buffer c.put_back-at.ensures.place
           c.put.ensures.buffer;
     }

@@ -13,14 +13,14 @@ returns-then-into-needed c =
     let w = line_text (exchange_of f) in
     let h : length l < length w = omega arith in
     record {
-      answer = ap (λ n. Err (TextShort n)) c.line-len-needed.ensures ∙ sym (fitted_short w (length l) h);
+      answer = ap (λ n. Err (TextShort n)) c.line_len-needed.ensures ∙ sym (fitted_short w (length l) h);
       buffer = sym (over-short w l h);
-      reads = (λ _ _. frame-reads (exchange_of f) (sendable f.code f.back f.rest.now (omega arith) (All-from_get_or (λ b. b < 256) _ 0 (λ i _. c.are-bytes.ensures i)) (omega arith)));
-      alone = frame-reads (exchange_of f) (sendable f.code f.back f.rest.now (omega arith) (All-from_get_or (λ b. b < 256) _ 0 (λ i _. c.are-bytes.ensures i)) (omega arith));
+      reads = (λ _ _. frame-reads (exchange_of f) (sendable f.code f.back f.rest.now (omega arith) (All-from_get_or (λ b. b < 256) _ 0 (λ i _. c.are_bytes.ensures i)) (omega arith)));
+      alone = frame-reads (exchange_of f) (sendable f.code f.back f.rest.now (omega arith) (All-from_get_or (λ b. b < 256) _ 0 (λ i _. c.are_bytes.ensures i)) (omega arith));
     }
 
-pub put-line-requires : goal.put-line-requires
-put-line-requires c = omega arith
+pub put_line-requires : goal.put_line-requires
+put_line-requires c = omega arith
 
 pub returns : goal.returns
 returns c =
@@ -28,10 +28,10 @@ returns c =
     let l = c.args.into.now in
     let w = line_text (exchange_of f) in
     let h : length w ≤ length l = omega arith in
-    let n : c.put-line.result ≡ length w = omega arith in
+    let n : c.put_line.result ≡ length w = omega arith in
     record {
       answer = ap (λ n. Ok n) n ∙ sym (fitted-fits w (length l) h);
-      buffer = c.put-line.ensures.buffer ∙ laid_start w l ∙ sym (over-fits w l h);
-      reads = (λ _ _. frame-reads (exchange_of f) (sendable f.code f.back f.rest.now (omega arith) (All-from_get_or (λ b. b < 256) _ 0 (λ i _. c.are-bytes.ensures i)) (omega arith)));
-      alone = frame-reads (exchange_of f) (sendable f.code f.back f.rest.now (omega arith) (All-from_get_or (λ b. b < 256) _ 0 (λ i _. c.are-bytes.ensures i)) (omega arith));
+      buffer = c.put_line.ensures.buffer ∙ laid_start w l ∙ sym (over-fits w l h);
+      reads = (λ _ _. frame-reads (exchange_of f) (sendable f.code f.back f.rest.now (omega arith) (All-from_get_or (λ b. b < 256) _ 0 (λ i _. c.are_bytes.ensures i)) (omega arith)));
+      alone = frame-reads (exchange_of f) (sendable f.code f.back f.rest.now (omega arith) (All-from_get_or (λ b. b < 256) _ 0 (λ i _. c.are_bytes.ensures i)) (omega arith));
     }

@@ -24,28 +24,28 @@ returns-then-not-touches g c =
           (sym (page_off m q c.requires.1 a b c.requires.0 (sym c.if-not-touches.ensures))) refl (λ i l. refl);
     }
 
-pub returns-in-default : goal.returns-in-default
-returns-in-default g c =
+pub returns-in_default : goal.returns-in_default
+returns-in_default g c =
     let m = g.P.Part.meaning c.args.part.now in
-    let both = c.both-pages.ensures in
-    let z : min (length c.both-pages.result.0) (length c.both-pages.result.1) ≡ 64 = omega (arith, both.long) in
+    let both = c.both_pages.ensures in
+    let z : min (length c.both_pages.result.0) (length c.both_pages.result.1) ≡ 64 = omega (arith, both.long) in
     record {
       looked = both.looked;
       value =
           λ h.
-          first_of c.args.q m.image (wanted m c.args.write.address c.args.write.bytes.now) c.both-pages.result.0 c.both-pages.result.1 _ None
-          (both.old h) (both.new h) z c.in-default.ensures;
+          first_of c.args.q m.image (wanted m c.args.write.address c.args.write.bytes.now) c.both_pages.result.0 c.both_pages.result.1 _ None
+          (both.old h) (both.new h) z c.in_default.ensures;
     }
 
 pub returns : goal.returns
 returns g c =
     let m = g.P.Part.meaning c.args.part.now in
-    let both = c.both-pages.ensures in
-    let z : min (length c.both-pages.result.0) (length c.both-pages.result.1) ≡ 64 = omega (arith, both.long) in
+    let both = c.both_pages.ensures in
+    let z : min (length c.both_pages.result.0) (length c.both_pages.result.1) ≡ 64 = omega (arith, both.long) in
     record {
       looked = both.looked;
       value =
           λ h.
-          first_of c.args.q m.image (wanted m c.args.write.address c.args.write.bytes.now) c.both-pages.result.0 c.both-pages.result.1 _ (Some c.in-Some.place)
+          first_of c.args.q m.image (wanted m c.args.write.address c.args.write.bytes.now) c.both_pages.result.0 c.both_pages.result.1 _ (Some c.in-Some.place)
           (both.old h) (both.new h) z c.in-Some.ensures;
     }

@@ -31,7 +31,7 @@ returns-in-Some g c =
 pub loop-j-preserved : goal.loop-j-preserved
 loop-j-preserved g c =
     let inv = c.loop-j.invariant in
-    let page = c.in-default.ensures in
+    let page = c.in_default.ensures in
     let m = g.P.Part.meaning c.args.part.now in
     let a = c.args.write.address in
     let b = c.args.write.bytes.now in

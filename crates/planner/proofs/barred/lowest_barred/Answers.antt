@@ -10,7 +10,7 @@ use Rattle.planner.proofs.Askings.{guarded_more, guarded_most, mul_more}
 use Rattle.planner.proofs.Lookings.{looked_none, looked_join, looked_most}
 use Rattle.planner.proofs.Surveys.{free_not}
 use Rattle.planner.proofs.barred.lowest_barred.Goals as goal
-use Rattle.planner.proofs.barred.lowest_barred.Goals.{then-unwrap+in-default, else-unwrap}
+use Rattle.planner.proofs.barred.lowest_barred.Goals.{then-unwrap+in_default, else-unwrap}
 
 pub loop-k-init : goal.loop-k-init
 loop-k-init g c = (
@@ -18,17 +18,19 @@ loop-k-init g c = (
   λ _ a l b. omega (arith, zero-mul c.pages-pages.result),
 )
 
-pub change-in-requires : goal.change-in-requires
-change-in-requires g c =
+pub change_in-requires : goal.change_in-requires
+change_in-requires g c =
     let same = sym c.loop-k.invariant.0.same in
     let m = g.P.Part.meaning c.args.part.now in
     let k = c.loop-k.k in
     let p = c.pages-pages.result in
-    let s = c.sectors-sectors.ensures in (
-      subst (λ (x : Meaning). Fitting x c.args.write.address c.args.write.bytes.now) same c.requires,
-      subst (λ (x : Meaning). k * p + p ≤ x.shape.sectors * x.shape.pages) same
-          (subst (λ x. k * x + x ≤ m.shape.sectors * m.shape.pages) (sym c.pages-pages.ensures) (below_end m.shape.pages k m.shape.sectors (omega arith))),
-    )
+    let s = c.sectors-sectors.ensures in
+    record {
+      fitting = subst (λ (x : Meaning). Fitting x c.args.write.address c.args.write.bytes.now) same c.requires;
+      count_bound =
+          subst (λ (x : Meaning). k * p + p ≤ x.shape.sectors * x.shape.pages) same
+          (subst (λ x. k * x + x ≤ m.shape.sectors * m.shape.pages) (sym c.pages-pages.ensures) (below_end m.shape.pages k m.shape.sectors (omega arith)));
+    }
 
 -- what the part said of sector k is so of the part as it was
 said : (a b : Meaning) (k : ℕ) (v : Bool) → b ≡ a → protected_at b k ≡ v → protected_at a k ≡ v
@@ -47,7 +49,7 @@ returns-in-Some g c =
     let s = c.sectors-sectors.ensures in
     let inside : k < m.shape.sectors = omega arith in
     let inside' : k < now.shape.sectors = subst (λ (x : Meaning). k < x.shape.sectors) (sym inv.0.same) inside in
-    let prot = said m now k true inv.0.same (protected_is now k true _ inside' c.is-protected.ensures c.if-unwrap.ensures) in
+    let prot = said m now k true inv.0.same (protected_is now k true _ inside' c.is_protected.ensures c.if-unwrap.ensures) in
     record {
       looked = looked_join g.P.Part.meaning g.P.Part.trace g.P.Part.intact g.met.P.Part.joins _ _ _ _ _ _ inv.0 found.looked
           (guarded_more (free (protected_at m) m.shape.sectors) (64 * (k * m.shape.pages)) (64 * p) (whole m)
@@ -77,16 +79,16 @@ loop-k-preserved g c =
     let more = mul_more k m.shape.pages in
     let then : ℕ = cond f 0 (64 * ((k + 1) * m.shape.pages)) in
     elim c.if-unwrap.branch [
-      | then-unwrap+in-default w ↦ (
+      | then-unwrap+in_default w ↦ (
         subst (λ x. LookedBy g.P.Part.meaning g.P.Part.trace g.P.Part.intact then c.args.part.now x) (sym w.part-is)
-            (looked_join g.P.Part.meaning g.P.Part.trace g.P.Part.intact g.met.P.Part.joins _ _ then _ _ _ inv.0 w.in-default.ensures.looked
+            (looked_join g.P.Part.meaning g.P.Part.trace g.P.Part.intact g.met.P.Part.joins _ _ then _ _ _ inv.0 w.in_default.ensures.looked
             (guarded_more f (64 * (k * m.shape.pages)) (64 * p) (64 * ((k + 1) * m.shape.pages))
             (free_not (protected_at m) m.shape.sectors k inside
-            (said m now k true inv.0.same (protected_is now k true _ inside' c.is-protected.ensures w.if-unwrap.ensures)))
+            (said m now k true inv.0.same (protected_is now k true _ inside' c.is_protected.ensures w.if-unwrap.ensures)))
             (omega (arith, more, c.pages-pages.ensures)))),
         λ h.
             barred_same m c.requires.sound (wanted m a b) k p c.pages-pages.ensures
-            (subst (λ (x : Meaning). FirstIn (k * p * 64) ((k * p + p) * 64) x.image (wanted x a b) None) inv.0.same (w.in-default.ensures.value (inv.0.keeps h)))
+            (subst (λ (x : Meaning). FirstIn (k * p * 64) ((k * p + p) * 64) x.image (wanted x a b) None) inv.0.same (w.in_default.ensures.value (inv.0.keeps h)))
             (inv.1 h),
       )
       | else-unwrap w ↦ (
@@ -95,6 +97,6 @@ loop-k-preserved g c =
             (guarded_most f (64 * (k * m.shape.pages)) (64 * ((k + 1) * m.shape.pages)) (omega (arith, more)))),
         λ h.
             barred_open m c.requires.sound (wanted m a b) k p c.pages-pages.ensures
-            (said m now k false inv.0.same (protected_is now k false _ inside' c.is-protected.ensures w.if-unwrap.ensures)) (inv.1 h),
+            (said m now k false inv.0.same (protected_is now k false _ inside' c.is_protected.ensures w.if-unwrap.ensures)) (inv.1 h),
       )
     ]

@@ -7,11 +7,11 @@ use Rattle.planner.proofs.Lookings.{looked_most, looked_none}
 use Rattle.planner.proofs.Surveys.{bulk_flat, on_flat}
 use Rattle.planner.proofs.choice.bulk_cost.Goals as goal
 
-pub returns-then-not-is-free : goal.returns-then-not-is-free
-returns-then-not-is-free g c =
+pub returns-then-not-is_free : goal.returns-then-not-is_free
+returns-then-not-is_free g c =
     record {
       looked = looked_none g.P.Part.meaning g.P.Part.trace g.P.Part.intact _ c.args.part.now (g.met.P.Part.stays c.args.part.now);
-      value = λ h _. sym (cond-false _ _ _ (sym c.if-not-is-free.ensures));
+      value = λ h _. sym (cond-false _ _ _ (sym c.if-not-is_free.ensures));
     }
 
 pub returns : goal.returns
@@ -23,12 +23,12 @@ returns g c =
     ap₂ (λ x y. x * y) c.sectors.ensures c.pages.ensures in
     record {
       looked =
-          looked_most g.P.Part.meaning g.P.Part.trace g.P.Part.intact _ _ _ _ c.erase-costs.ensures.looked
-          (subst (λ n. bytes_off a b 0 (c.sectors.result * c.pages.result) ≤ n) (sym (cond-true _ _ _ (sym c.if-not-is-free.ensures)))
+          looked_most g.P.Part.meaning g.P.Part.trace g.P.Part.intact _ _ _ _ c.erase_costs.ensures.looked
+          (subst (λ n. bytes_off a b 0 (c.sectors.result * c.pages.result) ≤ n) (sym (cond-true _ _ _ (sym c.if-not-is_free.ensures)))
           (omega (arith, on_and_off a b 0 (c.sectors.result * c.pages.result), e)));
       value =
           λ h t.
-          c.erase-costs.ensures.value h (t ∙ (on_flat m a b ∙ ap (λ n. on_from m a b 0 n) (sym e)))
+          c.erase_costs.ensures.value h (t ∙ (on_flat m a b ∙ ap (λ n. on_from m a b 0 n) (sym e)))
           ∙ (ap (below c.args.limit) (ap (λ n. erased_from m a b 0 n) e ∙ bulk_flat m a b)
-          ∙ sym (cond-true _ _ _ (sym c.if-not-is-free.ensures)));
+          ∙ sym (cond-true _ _ _ (sym c.if-not-is_free.ensures)));
     }

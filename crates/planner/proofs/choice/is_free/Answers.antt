@@ -9,11 +9,11 @@ returns-then-unwrap g c =
     let m = g.P.Part.meaning c.args.part.now in
     let e = c.sectors-k-end.ensures in
     sym (free_not (protected_at m) m.shape.sectors c.loop-k.k (omega arith)
-    (protected_is m c.loop-k.k _ _ (omega arith) c.is-protected.ensures c.if-unwrap.ensures))
+    (protected_is m c.loop-k.k _ _ (omega arith) c.is_protected.ensures c.if-unwrap.ensures))
 
 pub loop-k-preserved : goal.loop-k-preserved
 loop-k-preserved g c =
     let m = g.P.Part.meaning c.args.part.now in
     let e = c.sectors-k-end.ensures in
     free_more (protected_at m) c.loop-k.k c.loop-k.invariant
-    (protected_is m c.loop-k.k _ _ (omega arith) c.is-protected.ensures c.if-unwrap.ensures)
+    (protected_is m c.loop-k.k _ _ (omega arith) c.is_protected.ensures c.if-unwrap.ensures)

@@ -32,7 +32,7 @@ loop-k-init g c = (
 pub loop-k-preserved : goal.loop-k-preserved
 loop-k-preserved g c =
     let inv = c.loop-k.invariant in
-    let sector = c.sector-cost-first.ensures in
+    let sector = c.sector_cost-first.ensures in
     let a = c.args.write.address in
     let b = c.args.write.bytes.now in
     let k = c.loop-k.k in
@@ -48,7 +48,7 @@ loop-k-preserved g c =
           (sector.value (inv.0.keeps h) ∙ ap (λ x. sector_cost fewest x.shape (kept x a b) (preset x a b) k) inv.0.same)
           ∙ sym (sum_more fewest k (sector_cost fewest m.shape (kept m a b) (preset m a b))),
       λ h.
-          marked c.loop-k.erased (erases m a b) k c.sector-cost-first.result.0 (omega arith)
+          marked c.loop-k.erased (erases m a b) k c.sector_cost-first.result.0 (omega arith)
           (sector.first (inv.0.keeps h) ∙ ap (λ x. erases x a b k) inv.0.same) (inv.6 h),
       λ h.
           ap₂ (λ x y. fewest.plus x y) (inv.7 h)

@@ -9,15 +9,15 @@ use Rattle.planner.proofs.emit.keep_page.Goals as goal
 pub touches-requires : goal.touches-requires
 touches-requires g c =
     let m = g.P.Part.meaning c.args.part.now in
-    let R = c.requires.0.1 in
-    (page-low m c.args.q R, write_low m c.args.q R c.args.write.address c.args.write.bytes.now c.requires.0.0)
+    let R = c.requires.fitting.1 in
+    (page-low m c.args.q R, write_low m c.args.q R c.args.write.address c.args.write.bytes.now c.requires.fitting.0)
 
-pub returns-then-is-full : goal.returns-then-is-full
-returns-then-is-full g c =
+pub returns-then-is_full : goal.returns-then-is_full
+returns-then-is_full g c =
     record {
       looked = looked_none g.P.Part.meaning g.P.Part.trace g.P.Part.intact _ c.args.part.now (g.met.P.Part.stays c.args.part.now);
-      bound = c.requires.1;
-      sent = λ h. sent_full _ c.args.steps.now c.args.data.now c.args.at (leb-true _ _ (sym c.if-is-full.ensures));
+      bound = c.requires.at_in_bounds;
+      sent = λ h. sent_full _ c.args.steps.now c.args.data.now c.args.at (leb-true _ _ (sym c.if-is_full.ensures));
     }
 
 pub returns-then-not-touches : goal.returns-then-not-touches
@@ -29,6 +29,6 @@ returns-then-not-touches g c =
       sent =
           λ h.
           subst (λ l. Sent l c.args.steps.now c.args.steps.now c.args.data.now c.args.data.now c.args.at c.args.at)
-          (sym (cycles_off m c.args.q c.requires.0.1 c.args.write.address c.args.write.bytes.now c.requires.0.0 (sym c.if-not-touches.ensures)))
+          (sym (cycles_off m c.args.q c.requires.fitting.1 c.args.write.address c.args.write.bytes.now c.requires.fitting.0 (sym c.if-not-touches.ensures)))
           (sent_none c.args.steps.now c.args.data.now c.args.at);
     }

@@ -20,7 +20,7 @@ loop-j-init g c = (
 pub loop-j-preserved : goal.loop-j-preserved
 loop-j-preserved g c =
     let inv = c.loop-j.invariant in
-    let page = c.keep-page-at.ensures in
+    let page = c.keep_page-at.ensures in
     let a = c.args.write.address in
     let b = c.args.write.bytes.now in
     let f : Meaning → ℕ → List Cycle = λ x i. keep_cycles 64 x.image (wanted x a b) (c.args.first + i) in
@@ -30,7 +30,7 @@ loop-j-preserved g c =
       omega (arith, page.bound),
       omega (arith, page.bound),
       λ h.
-          subst (λ l. Sent l c.args.steps.now c.keep-page-at.new.steps c.args.data.now c.keep-page-at.new.data c.args.start c.keep-page-at.result) (sym (list_more j (f m)))
-          (sent_join (list_to j (f m)) (f m j) c.args.steps.now c.loop-j.steps c.keep-page-at.new.steps c.args.data.now c.loop-j.data c.keep-page-at.new.data c.args.start c.loop-j.at c.keep-page-at.result (inv.3 h)
-          (subst (λ (x : Meaning). Sent (f x j) c.loop-j.steps c.keep-page-at.new.steps c.loop-j.data c.keep-page-at.new.data c.loop-j.at c.keep-page-at.result) inv.0.same (page.sent (inv.0.keeps h)))),
+          subst (λ l. Sent l c.args.steps.now c.keep_page-at.new.steps c.args.data.now c.keep_page-at.new.data c.args.start c.keep_page-at.result) (sym (list_more j (f m)))
+          (sent_join (list_to j (f m)) (f m j) c.args.steps.now c.loop-j.steps c.keep_page-at.new.steps c.args.data.now c.loop-j.data c.keep_page-at.new.data c.args.start c.loop-j.at c.keep_page-at.result (inv.3 h)
+          (subst (λ (x : Meaning). Sent (f x j) c.loop-j.steps c.keep_page-at.new.steps c.loop-j.data c.keep_page-at.new.data c.loop-j.at c.keep_page-at.result) inv.0.same (page.sent (inv.0.keeps h)))),
     )

@@ -7,22 +7,22 @@ pub returns-then-choice : goal.returns-then-choice
 returns-then-choice g c =
     let m = g.P.Part.meaning c.args.part.now in
     record {
-      looked = c.put-bulk.ensures.looked;
+      looked = c.put_bulk.ensures.looked;
       sent =
           λ h chosen.
-          subst (λ l. Sent l c.args.steps.now c.put-bulk.new.steps c.args.data.now c.put-bulk.new.data (0, 0) c.put-bulk.result)
+          subst (λ l. Sent l c.args.steps.now c.put_bulk.new.steps c.args.data.now c.put_bulk.new.data (0, 0) c.put_bulk.result)
           (bulk_is m c.requires.sound c.args.write.address c.args.write.bytes.now c.args.choice.now chosen c.if-choice.true)
-          (c.put-bulk.ensures.sent h);
+          (c.put_bulk.ensures.sent h);
     }
 
 pub returns : goal.returns
 returns g c =
     let m = g.P.Part.meaning c.args.part.now in
     record {
-      looked = c.put-sectors.ensures.looked;
+      looked = c.put_sectors.ensures.looked;
       sent =
           λ h chosen.
-          subst (λ l. Sent l c.args.steps.now c.put-sectors.new.steps c.args.data.now c.put-sectors.new.data (0, 0) c.put-sectors.result)
+          subst (λ l. Sent l c.args.steps.now c.put_sectors.new.steps c.args.data.now c.put_sectors.new.data (0, 0) c.put_sectors.result)
           (sectors_are m c.requires.sound c.args.write.address c.args.write.bytes.now c.args.choice.now chosen c.if-choice.false)
-          (c.put-sectors.ensures.sent h);
+          (c.put_sectors.ensures.sent h);
     }

@@ -21,7 +21,7 @@ loop-k-init g c = (
 pub loop-k-preserved : goal.loop-k-preserved
 loop-k-preserved g c =
     let inv = c.loop-k.invariant in
-    let sector = c.put-sector-at.ensures in
+    let sector = c.put_sector-at.ensures in
     let a = c.args.write.address in
     let b = c.args.write.bytes.now in
     let f : Meaning → ℕ → List Cycle = λ x i. sector_list x a b (get_or c.args.erased.now i false) i in
@@ -31,7 +31,7 @@ loop-k-preserved g c =
       omega (arith, sector.bound),
       omega (arith, sector.bound),
       λ h.
-          subst (λ l. Sent l c.args.steps.now c.put-sector-at.new.steps c.args.data.now c.put-sector-at.new.data (0, 0) c.put-sector-at.result) (sym (list_more k (f m)))
-          (sent_join (list_to k (f m)) (f m k) c.args.steps.now c.loop-k.steps c.put-sector-at.new.steps c.args.data.now c.loop-k.data c.put-sector-at.new.data (0, 0) c.loop-k.at c.put-sector-at.result (inv.3 h)
-          (subst (λ (x : Meaning). Sent (f x k) c.loop-k.steps c.put-sector-at.new.steps c.loop-k.data c.put-sector-at.new.data c.loop-k.at c.put-sector-at.result) inv.0.same (sector.sent (inv.0.keeps h)))),
+          subst (λ l. Sent l c.args.steps.now c.put_sector-at.new.steps c.args.data.now c.put_sector-at.new.data (0, 0) c.put_sector-at.result) (sym (list_more k (f m)))
+          (sent_join (list_to k (f m)) (f m k) c.args.steps.now c.loop-k.steps c.put_sector-at.new.steps c.args.data.now c.loop-k.data c.put_sector-at.new.data (0, 0) c.loop-k.at c.put_sector-at.result (inv.3 h)
+          (subst (λ (x : Meaning). Sent (f x k) c.loop-k.steps c.put_sector-at.new.steps c.loop-k.data c.put_sector-at.new.data c.loop-k.at c.put_sector-at.result) inv.0.same (sector.sent (inv.0.keeps h)))),
     )

@@ -9,10 +9,10 @@ returns g c =
     let m = g.P.Part.meaning c.args.part.now in
     let address = c.args.write.address in
     let bytes = c.args.write.bytes.now in
-    let read = c.read-page-old.ensures in
+    let read = c.read_page-old.ensures in
     record {
       looked = read.looked;
-      long = (read.long, ap length c.overlay.ensures ∙ (length-overlaid address bytes (c.args.q * 64) c.read-page-old.result ∙ read.long));
+      long = (read.long, ap length c.overlay.ensures ∙ (length-overlaid address bytes (c.args.q * 64) c.read_page-old.result ∙ read.long));
       old = read.bytes;
       new =
           λ h.

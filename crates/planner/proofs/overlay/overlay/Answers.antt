@@ -8,7 +8,7 @@ loop-i-init c = ap (λ y. overlaid c.args.write.address c.args.write.bytes.now y
 
 pub loop-i-preserved : goal.loop-i-preserved
 loop-i-preserved c =
-    sym (overlaid_more c.args.write.address c.args.write.bytes.now c.args.at c.loop-i.i c.wanted-at.result c.loop-i.run (omega arith) c.wanted-at.ensures)
+    sym (overlaid_more c.args.write.address c.args.write.bytes.now c.args.at c.loop-i.i c.wanted_at.result c.loop-i.run (omega arith) c.wanted_at.ensures)
     ∙ c.loop-i.invariant
 
 pub returns : goal.returns

@@ -6,11 +6,11 @@ use Rattle.planner.proofs.Lookings.{looked_by, looked_most, looked_none, size_is
 use Rattle.planner.proofs.Calls.{handed_busy, handed_outside, handed_inside}
 use Rattle.planner.proofs.plan.plan.Goals as goal
 
-pub returns-then-not-is-inside : goal.returns-then-not-is-inside
-returns-then-not-is-inside g c =
+pub returns-then-not-is_inside : goal.returns-then-not-is_inside
+returns-then-not-is_inside g c =
     let m = g.P.Part.meaning c.args.part.now in
     let f : leb (c.args.address + length c.args.bytes.now) (size m.shape) ≡ false =
-    ap (λ s. leb (c.args.address + length c.args.bytes.now) s) (sym c.size-of.ensures) ∙ sym c.if-not-is-inside.ensures in
+    ap (λ s. leb (c.args.address + length c.args.bytes.now) s) (sym c.size_of.ensures) ∙ sym c.if-not-is_inside.ensures in
     record {
       looked = looked_by g.P.Part.meaning g.P.Part.trace g.P.Part.intact 0 _ _ (looked_none g.P.Part.meaning g.P.Part.trace g.P.Part.intact 0 c.args.part.now (g.met.P.Part.stays c.args.part.now));
       asked = looked_none g.P.Part.meaning g.P.Part.trace g.P.Part.intact _ c.args.part.now (g.met.P.Part.stays c.args.part.now);
@@ -22,12 +22,12 @@ returns-then-not-is-inside g c =
       answer = λ h. handed_outside m c.args.address c.args.bytes.now _ _ _ _ _ _ f refl refl;
     }
 
-pub returns-then-is-busy : goal.returns-then-is-busy
-returns-then-is-busy g c =
+pub returns-then-is_busy : goal.returns-then-is_busy
+returns-then-is_busy g c =
     let m = g.P.Part.meaning c.args.part.now in
     let f : leb (c.args.address + length c.args.bytes.now) (size m.shape) ≡ true =
-    ap (λ s. leb (c.args.address + length c.args.bytes.now) s) (sym c.size-of.ensures) ∙ sym c.if-not-is-inside.ensures in
-    let i : idle m ≡ false = not-true (idle m) (sym c.if-is-busy.ensures) in
+    ap (λ s. leb (c.args.address + length c.args.bytes.now) s) (sym c.size_of.ensures) ∙ sym c.if-not-is_inside.ensures in
+    let i : idle m ≡ false = not-true (idle m) (sym c.if-is_busy.ensures) in
     record {
       looked = looked_by g.P.Part.meaning g.P.Part.trace g.P.Part.intact 0 _ _ (looked_none g.P.Part.meaning g.P.Part.trace g.P.Part.intact 0 c.args.part.now (g.met.P.Part.stays c.args.part.now));
       asked = looked_none g.P.Part.meaning g.P.Part.trace g.P.Part.intact _ c.args.part.now (g.met.P.Part.stays c.args.part.now);
@@ -43,9 +43,9 @@ pub returns : goal.returns
 returns g c =
     let m = g.P.Part.meaning c.args.part.now in
     let f : leb (c.args.address + length c.args.bytes.now) (size m.shape) ≡ true =
-    ap (λ s. leb (c.args.address + length c.args.bytes.now) s) (sym c.size-of.ensures) ∙ sym c.if-not-is-inside.ensures in
-    let i : idle m ≡ true = not-false (idle m) (sym c.if-is-busy.ensures) in
-    let inside = c.plan-inside.ensures in
+    ap (λ s. leb (c.args.address + length c.args.bytes.now) s) (sym c.size_of.ensures) ∙ sym c.if-not-is_inside.ensures in
+    let i : idle m ≡ true = not-false (idle m) (sym c.if-is_busy.ensures) in
+    let inside = c.plan_inside.ensures in
     record {
       looked = looked_by g.P.Part.meaning g.P.Part.trace g.P.Part.intact _ _ _ inside.looked;
       asked = looked_most g.P.Part.meaning g.P.Part.trace g.P.Part.intact _ _ _ _ inside.looked (omega (arith, size_is m (g.met.P.Part.sound c.args.part.now)));
@@ -54,5 +54,5 @@ returns g c =
       unplanned = inside.unplanned;
       room = inside.room;
       rest = inside.rest;
-      answer = λ h. handed_inside m c.args.address c.args.bytes.now _ _ _ _ _ _ f i c.plan-inside.result (inside.answer h);
+      answer = λ h. handed_inside m c.args.address c.args.bytes.now _ _ _ _ _ _ f i c.plan_inside.result (inside.answer h);
     }

@@ -17,7 +17,7 @@ returns-in-Some g c =
     let m = g.P.Part.meaning c.args.part.now in
     let a = c.args.write.address in
     let b = c.args.write.bytes.now in
-    let F = c.requires.0 in
+    let F = c.requires.fitting in
     let low = c.in-Some.ensures in
     record {
       looked = looked_most g.P.Part.meaning g.P.Part.trace g.P.Part.intact _ _ _ _ low.looked (asked-barred m);
@@ -27,7 +27,7 @@ returns-in-Some g c =
       answer =
           λ h.
           handed_barred m F.sound a b _ _ _ _ _ _ c.in-Some.place
-          (lowest_is m F.sound a b F c.requires.1 (Some c.in-Some.place) (low.value h)) refl refl;
+          (lowest_is m F.sound a b F c.requires.byte (Some c.in-Some.place) (low.value h)) refl refl;
     }
 
 pub returns-then-cycles-steps : goal.returns-then-cycles-steps
@@ -35,8 +35,8 @@ returns-then-cycles-steps g c =
     let m = g.P.Part.meaning c.args.part.now in
     let a = c.args.write.address in
     let b = c.args.write.bytes.now in
-    let F = c.requires.0 in
-    let low = c.in-default.ensures in
+    let F = c.requires.fitting in
+    let low = c.in_default.ensures in
     let ch = c.choose-choice.ensures in
     record {
       looked = looked_join g.P.Part.meaning g.P.Part.trace g.P.Part.intact g.met.P.Part.joins _ _ _ _ _ _ low.looked ch.looked (asked_most m _ low.looked.same);
@@ -46,7 +46,7 @@ returns-then-cycles-steps g c =
       answer =
           λ h.
           let chosen = subst (λ (x : Meaning). Chosen x a b c.choose-choice.result) low.looked.same (ch.value (low.looked.keeps h)) in
-          handed_steps m F.sound a b _ _ _ _ _ _ (lowest_is m F.sound a b F c.requires.1 None (low.value h)) c.choose-choice.result.cost
+          handed_steps m F.sound a b _ _ _ _ _ _ (lowest_is m F.sound a b F c.requires.byte None (low.value h)) c.choose-choice.result.cost
           (cost_is m F.sound a b c.choose-choice.result chosen) c.if-cycles-steps.true refl refl;
     }
 
@@ -55,8 +55,8 @@ returns-then-sent-data g c =
     let m = g.P.Part.meaning c.args.part.now in
     let a = c.args.write.address in
     let b = c.args.write.bytes.now in
-    let F = c.requires.0 in
-    let low = c.in-default.ensures in
+    let F = c.requires.fitting in
+    let low = c.in_default.ensures in
     let ch = c.choose-choice.ensures in
     record {
       looked = looked_join g.P.Part.meaning g.P.Part.trace g.P.Part.intact g.met.P.Part.joins _ _ _ _ _ _ low.looked ch.looked (asked_most m _ low.looked.same);
@@ -66,7 +66,7 @@ returns-then-sent-data g c =
       answer =
           λ h.
           let chosen = subst (λ (x : Meaning). Chosen x a b c.choose-choice.result) low.looked.same (ch.value (low.looked.keeps h)) in
-          handed_data m F.sound a b _ _ _ _ _ _ (lowest_is m F.sound a b F c.requires.1 None (low.value h)) c.choose-choice.result.cost
+          handed_data m F.sound a b _ _ _ _ _ _ (lowest_is m F.sound a b F c.requires.byte None (low.value h)) c.choose-choice.result.cost
           (cost_is m F.sound a b c.choose-choice.result chosen) c.if-cycles-steps.false c.if-sent-data.true refl refl;
     }
 
@@ -75,10 +75,10 @@ returns g c =
     let m = g.P.Part.meaning c.args.part.now in
     let a = c.args.write.address in
     let b = c.args.write.bytes.now in
-    let F = c.requires.0 in
-    let low = c.in-default.ensures in
+    let F = c.requires.fitting in
+    let low = c.in_default.ensures in
     let ch = c.choose-choice.ensures in
-    let pp = c.put-plan.ensures in
+    let pp = c.put_plan.ensures in
     let n = c.choose-choice.result.cost.0 in
     let d = c.choose-choice.result.cost.1 in
     let steps = c.args.steps.now in
@@ -93,8 +93,8 @@ returns g c =
       unplanned = λ t. absurd (true≢false t);
       room = (c.if-cycles-steps.false, c.if-sent-data.false);
       rest = (
-        drop-append-drop (n - 0) steps c.put-plan.new.steps n (omega arith) (omega (arith, c.put-plan.auto.steps)),
-        drop-append-drop (d - 0) sent c.put-plan.new.data d (omega arith) (omega (arith, c.put-plan.auto.data)),
+        drop-append-drop (n - 0) steps c.put_plan.new.steps n (omega arith) (omega (arith, c.put_plan.auto.steps)),
+        drop-append-drop (d - 0) sent c.put_plan.new.data d (omega arith) (omega (arith, c.put_plan.auto.data)),
       );
       answer =
           λ h.
@@ -102,10 +102,10 @@ returns g c =
           let e = cost_is m F.sound a b c.choose-choice.result chosen in
           let u : length (steps_of (plan_list m a b)) ≡ n = sym (ap (λ (y : ℕ × ℕ). y.0) (e ∙ plan-counts m F.sound a b)) in
           let v : length (data_of (plan_list m a b)) ≡ d = sym (ap (λ (y : ℕ × ℕ). y.1) (e ∙ plan-counts m F.sound a b)) in
-          let s = subst (λ (x : Meaning). Sent (plan_list x a b) (take (n - 0) steps) c.put-plan.new.steps (take (d - 0) sent) c.put-plan.new.data (0, 0) c.put-plan.result) looked₁.same
+          let s = subst (λ (x : Meaning). Sent (plan_list x a b) (take (n - 0) steps) c.put_plan.new.steps (take (d - 0) sent) c.put_plan.new.data (0, 0) c.put_plan.result) looked₁.same
           (pp.sent (looked₁.keeps h) (subst (λ (x : Meaning). Chosen x a b c.choose-choice.result) (sym looked₁.same) chosen)) in
-          let p = put_all (plan_list m a b) (take (n - 0) steps) c.put-plan.new.steps (take (d - 0) sent) c.put-plan.new.data c.put-plan.result n d n₀ d₀ u v s in
-          handed_plan m F.sound a b _ _ steps _ sent _ (lowest_is m F.sound a b F c.requires.1 None (low.value h)) c.choose-choice.result.cost
+          let p = put_all (plan_list m a b) (take (n - 0) steps) c.put_plan.new.steps (take (d - 0) sent) c.put_plan.new.data c.put_plan.result n d n₀ d₀ u v s in
+          handed_plan m F.sound a b _ _ steps _ sent _ (lowest_is m F.sound a b F c.requires.byte None (low.value h)) c.choose-choice.result.cost
           e c.if-cycles-steps.false c.if-sent-data.false
           (ap₂ (λ x k. x ++ drop k steps) p.0 (n₁ ∙ sym u)) (ap₂ (λ x k. x ++ drop k sent) p.1 (d₁ ∙ sym v));
     }

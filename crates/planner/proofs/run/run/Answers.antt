@@ -48,13 +48,13 @@ returns-then-not-wait-2 g c =
     let p = polled_out g.P.Part.meaning g.P.Part.trace g.P.Part.intact g.met.P.Part.stays g.met.P.Part.joins c.args.part.now c.wait.new.part c.args.limit c.if-not-wait.ensures.idle c.if-not-wait.ensures.polls in
     let q = polled-short g.P.Part.meaning g.P.Part.trace g.P.Part.intact g.met.P.Part.stays g.met.P.Part.joins c.send.new.part c.wait-in-loop-i.new.part c.args.limit c.if-not-wait-2.ensures.idle c.if-not-wait-2.ensures.polls in
     let x : Ran g.P.Part.meaning g.P.Part.trace g.P.Part.intact c.args.data.now c.args.limit c.args.steps.now c.args.part.now c.wait-in-loop-i.new.part (Err (Abandoned (c.loop-i.i + 1))) =
-    abandoned (grind (arith, nat_tests)) p.0 p.1 c.loop-i.i _ c.loop-i-test.true (take_more c.args.steps.now c.loop-i.i _ c.loop-i-test.true) c.loop-i.invariant.0 c.loop-i.invariant.1 (c.in-default.ensures c.loop-i.invariant.1) q.0 q.1 in
+    abandoned (grind (arith, nat_tests)) p.0 p.1 c.loop-i.i _ c.loop-i-test.true (take_more c.args.steps.now c.loop-i.i _ c.loop-i-test.true) c.loop-i.invariant.0 c.loop-i.invariant.1 (c.in_default.ensures c.loop-i.invariant.1) q.0 q.1 in
     record { ran = x; did = done g c.args.data.now c.args.limit c.args.steps.now c.args.part.now c.wait-in-loop-i.new.part (Err (Abandoned (c.loop-i.i + 1))) x }
 
 pub loop-i-preserved : goal.loop-i-preserved
 loop-i-preserved g c =
     let q = polled_out g.P.Part.meaning g.P.Part.trace g.P.Part.intact g.met.P.Part.stays g.met.P.Part.joins c.send.new.part c.wait-in-loop-i.new.part c.args.limit c.if-not-wait-2.ensures.idle c.if-not-wait-2.ensures.polls in
-    let s = more c.loop-i.invariant.0 c.loop-i.invariant.1 (c.in-default.ensures c.loop-i.invariant.1) q.0 q.1 in (
+    let s = more c.loop-i.invariant.0 c.loop-i.invariant.1 (c.in_default.ensures c.loop-i.invariant.1) q.0 q.1 in (
       subst (λ l. Sends g.P.Part.meaning g.P.Part.trace g.P.Part.intact c.args.data.now c.args.limit c.wait.new.part l c.wait-in-loop-i.new.part) (sym (take_more c.args.steps.now c.loop-i.i _ c.loop-i-test.true)) s,
       q.2,
     )

@@ -19,7 +19,7 @@ returns-then-at-steps c =
           subst
           (λ (o : Option (ℕ × ℕ)). Sent (sending (cycle_of c.args.kind) 64 c.args.q c.args.page.now o) c.args.steps.now c.args.steps.now c.args.data.now c.args.data.now c.args.at c.args.at)
           (sym c.in-Some.is)
-          (sent-short c.args.kind c.requires.0.0 64 c.args.q c.args.page.now w c.args.steps.now c.args.data.now c.args.at no_room);
+          (sent-short c.args.kind c.requires.room.0 64 c.args.q c.args.page.now w c.args.steps.now c.args.data.now c.args.at no_room);
       bound = (omega arith, omega arith);
     }
 
@@ -30,11 +30,11 @@ returns c =
     record {
       sent =
           subst
-          (λ (o : Option (ℕ × ℕ)). Sent (sending (cycle_of c.args.kind) 64 c.args.q c.args.page.now o) c.args.steps.now s c.args.data.now c.send-bytes.new.data c.args.at (c.args.at.0 + 1, c.args.at.1 + w.1))
+          (λ (o : Option (ℕ × ℕ)). Sent (sending (cycle_of c.args.kind) 64 c.args.q c.args.page.now o) c.args.steps.now s c.args.data.now c.send_bytes.new.data c.args.at (c.args.at.0 + 1, c.args.at.1 + w.1))
           (sym c.in-Some.is)
           (subst
           (λ (d : List ℕ). Sent (sending (cycle_of c.args.kind) 64 c.args.q c.args.page.now (Some w)) c.args.steps.now s c.args.data.now d c.args.at (c.args.at.0 + 1, c.args.at.1 + w.1))
-          (sym c.send-bytes.ensures)
-          (sent-page c.args.kind c.requires.0.0 64 c.args.q c.args.page.now w c.args.steps.now c.args.data.now c.args.at));
+          (sym c.send_bytes.ensures)
+          (sent-page c.args.kind c.requires.room.0 64 c.args.q c.args.page.now w c.args.steps.now c.args.data.now c.args.at));
       bound = (omega arith, omega arith);
     }

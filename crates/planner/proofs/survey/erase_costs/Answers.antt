@@ -20,8 +20,8 @@ loop-j-init g c = (
   λ _. sym (plus_none (fewest_lawful 64) (1 + c.args.presets.0, c.args.presets.1)),
 )
 
-pub returns-then-at-most : goal.returns-then-at-most
-returns-then-at-most g c =
+pub returns-then-at_most : goal.returns-then-at_most
+returns-then-at_most g c =
     let inv = c.loop-j.invariant in
     let a = c.args.write.address in
     let b = c.args.write.bytes.now in
@@ -37,15 +37,15 @@ returns-then-at-most g c =
           λ h e.
           sym (cond-true _ _ _
           (subst (λ (x : ℕ × ℕ). Le fewest c.args.limit x) (erased_is m a b c.args.first n c.args.presets e)
-          (L.leq-trans c.args.limit c.loop-j.cost (fewest.plus start (sum_to fewest n f)) (sym c.if-at-most.ensures)
+          (L.leq_trans c.args.limit c.loop-j.cost (fewest.plus start (sum_to fewest n f)) (sym c.if-at_most.ensures)
           (subst (λ (x : ℕ × ℕ). Le fewest x (fewest.plus start (sum_to fewest n f))) (sym (inv.3 h))
-          (L.plus-mono start start (sum_to fewest c.loop-j.j f) (sum_to fewest n f) (L.leq-refl start) (sum-front L f n c.loop-j.j (omega arith)))))));
+          (L.plus_mono start start (sum_to fewest c.loop-j.j f) (sum_to fewest n f) (L.leq_refl start) (sum-front L f n c.loop-j.j (omega arith)))))));
     }
 
 pub loop-j-preserved : goal.loop-j-preserved
 loop-j-preserved g c =
     let inv = c.loop-j.invariant in
-    let page = c.rest-cost-page.ensures in
+    let page = c.rest_cost-page.ensures in
     let a = c.args.write.address in
     let b = c.args.write.bytes.now in
     let m = g.P.Part.meaning c.args.part.now in
@@ -69,8 +69,8 @@ ended :
 ended m a b first count j presets cost d t e =
     t ∙ (ap (λ n. fewest.plus (1 + presets.0, presets.1) (off_from m a b first n)) d ∙ erased_is m a b first count presets e)
 
-pub returns-then-at-most-2 : goal.returns-then-at-most-2
-returns-then-at-most-2 g c =
+pub returns-then-at_most-2 : goal.returns-then-at_most-2
+returns-then-at_most-2 g c =
     let inv = c.loop-j.invariant in
     let m = g.P.Part.meaning c.args.part.now in
     record {
@@ -81,11 +81,11 @@ returns-then-at-most-2 g c =
           sym (cond-true _ _ _
           (subst (λ (x : ℕ × ℕ). Le fewest c.args.limit x)
           (ended m c.args.write.address c.args.write.bytes.now c.args.first c.args.count c.loop-j.j c.args.presets c.loop-j.cost (omega arith) (inv.3 h) e)
-          (sym c.if-at-most-2.ensures)));
+          (sym c.if-at_most-2.ensures)));
     }
 
-pub returns-else-at-most-2 : goal.returns-else-at-most-2
-returns-else-at-most-2 g c =
+pub returns-else-at_most-2 : goal.returns-else-at_most-2
+returns-else-at_most-2 g c =
     let inv = c.loop-j.invariant in
     let m = g.P.Part.meaning c.args.part.now in
     record {
@@ -93,7 +93,7 @@ returns-else-at-most-2 g c =
       bound = (omega (arith, inv.1), omega (arith, inv.2));
       value =
           λ h e.
-          sym (cond-false _ _ _ (sym c.if-at-most-2.ensures))
+          sym (cond-false _ _ _ (sym c.if-at_most-2.ensures))
           ∙ ap (below c.args.limit)
           (ended m c.args.write.address c.args.write.bytes.now c.args.first c.args.count c.loop-j.j c.args.presets c.loop-j.cost (omega arith) (inv.3 h) e);
     }

@@ -27,16 +27,16 @@ returns-then-not-touches g c =
 
 pub returns : goal.returns
 returns g c =
-    let pages = c.both-pages.ensures in
+    let pages = c.both_pages.ensures in
     let touched = sym c.if-not-touches.ensures in
     record {
-      looked = subst (λ n. LookedBy g.P.Part.meaning g.P.Part.trace g.P.Part.intact n c.args.part.now c.both-pages.new.part) (sym (cond-true _ _ _ touched)) pages.looked;
-      keeping = c.page-cost.ensures.bound;
-      erased = c.page-cost-2.ensures.bound;
-      kept = λ h. c.page-cost.ensures.value ∙ ap₂ (λ o n. window_cost fewest (window 64 o n)) (pages.old h) (pages.new h);
+      looked = subst (λ n. LookedBy g.P.Part.meaning g.P.Part.trace g.P.Part.intact n c.args.part.now c.both_pages.new.part) (sym (cond-true _ _ _ touched)) pages.looked;
+      keeping = c.page_cost.ensures.bound;
+      erased = c.page_cost-2.ensures.bound;
+      kept = λ h. c.page_cost.ensures.value ∙ ap₂ (λ o n. window_cost fewest (window 64 o n)) (pages.old h) (pages.new h);
       preset =
           λ h.
-          c.page-cost-2.ensures.value
+          c.page_cost-2.ensures.value
           ∙ (ap₂ (λ o n. window_cost fewest (window 64 o n)) c.blank.ensures (pages.new h)
           ∙ sym (cond-true _ _ _ touched));
     }

@@ -24,14 +24,14 @@ returns-then-touches g c =
 pub returns : goal.returns
 returns g c =
     let m = g.P.Part.meaning c.args.part.now in
-    let page = c.read-page-page.ensures in
+    let page = c.read_page-page.ensures in
     let off = sym c.if-touches.ensures in
     record {
-      looked = subst (λ n. LookedBy g.P.Part.meaning g.P.Part.trace g.P.Part.intact n c.args.part.now c.read-page-page.new.part) (sym (cond-false _ _ _ off)) page.looked;
-      bound = c.page-cost.ensures.bound;
+      looked = subst (λ n. LookedBy g.P.Part.meaning g.P.Part.trace g.P.Part.intact n c.args.part.now c.read_page-page.new.part) (sym (cond-false _ _ _ off)) page.looked;
+      bound = c.page_cost.ensures.bound;
       value =
           λ h.
-          c.page-cost.ensures.value
-          ∙ (ap (λ o. window_cost fewest (window 64 o c.read-page-page.result)) c.blank.ensures
-          ∙ preset_off_lem m c.args.q c.requires.1 c.args.write.address c.args.write.bytes.now c.requires.0 c.read-page-page.result (page.bytes h) off);
+          c.page_cost.ensures.value
+          ∙ (ap (λ o. window_cost fewest (window 64 o c.read_page-page.result)) c.blank.ensures
+          ∙ preset_off_lem m c.args.q c.requires.1 c.args.write.address c.args.write.bytes.now c.requires.0 c.read_page-page.result (page.bytes h) off);
     }

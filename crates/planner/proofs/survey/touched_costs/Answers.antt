@@ -20,7 +20,7 @@ loop-j-init g c = (
 pub loop-j-preserved : goal.loop-j-preserved
 loop-j-preserved g c =
     let inv = c.loop-j.invariant in
-    let page = c.page-costs.ensures in
+    let page = c.page_costs.ensures in
     let a = c.args.write.address in
     let b = c.args.write.bytes.now in
     let m = g.P.Part.meaning c.args.part.now in

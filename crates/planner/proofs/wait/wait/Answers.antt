@@ -12,10 +12,10 @@ by : (g : given.Over) (m n : ℕ) (a b : g.row.P.Denot) → m ≡ n
     → Polls g.P.Part.meaning g.P.Part.trace g.P.Part.intact m a b → Polls g.P.Part.meaning g.P.Part.trace g.P.Part.intact n a b
 by g m n a b e p = subst (λ k. Polls g.P.Part.meaning g.P.Part.trace g.P.Part.intact k a b) e p
 
-pub returns-then-not-is-busy : goal.returns-then-not-is-busy
-returns-then-not-is-busy g c =
+pub returns-then-not-is_busy : goal.returns-then-not-is_busy
+returns-then-not-is_busy g c =
     let a = c.args.part.now in
-    let e = c.if-not-is-busy.ensures in
+    let e = c.if-not-is_busy.ensures in
     let d : (g.P.Part.meaning a).due ≡ 0 = grind (arith, nat_tests) in
     record {
       idle = sym (le-leb (g.P.Part.meaning a).due c.args.limit (omega arith));
@@ -25,7 +25,7 @@ returns-then-not-is-busy g c =
 
 pub loop-init : goal.loop-init
 loop-init g c =
-    let e = c.if-not-is-busy.ensures in (
+    let e = c.if-not-is_busy.ensures in (
       polls_none g.P.Part.meaning g.P.Part.trace g.P.Part.intact g.met.P.Part.stays g.met.P.Part.joins c.args.part.now,
       grind (arith, nat_tests),
     )

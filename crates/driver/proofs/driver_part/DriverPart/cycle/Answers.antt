@@ -38,16 +38,16 @@ seen_clean : (o : Outline) (c : Chip) (kind : Kind) (a : ℕ) (r : Bool) → of_
     → presets kind (clean_at (seen o c) a) ≡ r
 seen_clean o c kind a r sound i e = ap (λ x. presets kind (blank (page 64 (a / 64) x))) (seen-image o c sound i) ∙ sym e
 
-pub is-clean-for-requires : goal.is-clean-for-requires
-is-clean-for-requires g c =
+pub is_clean_for-requires : goal.is_clean_for-requires
+is_clean_for-requires g c =
     let o : Outline = c.args.self.now.outline in
-    let p = passes o c.args.kind c.args.address (length c.args.data.now) c.in-default.ensures.value in
+    let p = passes o c.args.kind c.args.address (length c.args.data.now) c.in_default.ensures.value in
     (sendable o c.args.kind c.args.address (length c.args.data.now) p.inside p.fills).0
 
 pub send-requires : goal.send-requires
 send-requires g c =
     let o : Outline = c.args.self.now.outline in
-    let p = passes o c.args.kind c.args.address (length c.args.data.now) c.in-default.ensures.value in
+    let p = passes o c.args.kind c.args.address (length c.args.data.now) c.in_default.ensures.value in
     sendable o c.args.kind c.args.address (length c.args.data.now) p.inside p.fills
 
 pub returns-in-Some : goal.returns-in-Some
@@ -69,8 +69,8 @@ returns-in-Some g c =
       intact = λ i. i;
     }
 
-pub returns-then-not-is-clean-for : goal.returns-then-not-is-clean-for
-returns-then-not-is-clean-for g c =
+pub returns-then-not-is_clean_for : goal.returns-then-not-is_clean_for
+returns-then-not-is_clean_for g c =
     let o : Outline = c.args.self.now.outline in
     let port = c.args.self.now.port in
     let chip : Chip = g.P.Port.chip port in
@@ -80,13 +80,13 @@ returns-then-not-is-clean-for g c =
     let n : ℕ = length c.args.data.now in
     let room : ℕ = g.P.Port.longest port - 4 in
     let sound = (g.met.P.Port.sound port).0 in
-    let u = c.in-default.ensures.value in
+    let u = c.in_default.ensures.value in
     let v = unrefused o chip kind a n u in
     let p = passes o kind a n u in
     let s = (sendable o kind a n p.inside p.fills).0 in
-    let q = c.if-not-is-clean-for.ensures in
-    let e = c.is-clean-for.ensures.chip in
-    let d = drives_quiet o chip (g.P.Port.chip c.is-clean-for.new.port) (looks room kind a) [] e (looks_carry room kind a chip s) (looks-harmless room kind a chip s) (looks_no_status room kind a s) refl refl in
+    let q = c.if-not-is_clean_for.ensures in
+    let e = c.is_clean_for.ensures.chip in
+    let d = drives_quiet o chip (g.P.Port.chip c.is_clean_for.new.port) (looks room kind a) [] e (looks_carry room kind a chip s) (looks-harmless room kind a chip s) (looks_no_status room kind a s) refl refl in
     record {
       result = ap told (sym (soiled m.shape (protected_at m) (idle m) kind a n false v (sym q.others)));
       verdict = λ i. ap told (sym (soiled m.shape (protected_at m) (idle m) kind a n (clean_at m a) v (seen_clean o chip kind a false sound i (cleanly o chip kind a n false sound u q.others q.clean i))));
@@ -95,7 +95,7 @@ returns-then-not-is-clean-for g c =
       undone = λ _. ap (seen o) e;
       image = λ _ f. absurd (false≢true f);
       due = λ f. absurd (false≢true f);
-      trace = (looks room kind a, c.is-clean-for.ensures.trace, d);
+      trace = (looks room kind a, c.is_clean_for.ensures.trace, d);
       intact = d.intact;
     }
 
@@ -111,13 +111,13 @@ returns g c =
     let n : ℕ = length sent in
     let room : ℕ = g.P.Port.longest port - 4 in
     let sound = (g.met.P.Port.sound port).0 in
-    let u = c.in-default.ensures.value in
+    let u = c.in_default.ensures.value in
     let v = unrefused o chip kind a n u in
     let p = passes o kind a n u in
-    let q = c.if-not-is-clean-for.ensures in
+    let q = c.if-not-is_clean_for.ensures in
     let last : Chip = g.P.Port.chip c.send.new.port in
     let e : last ≡ after last.busy (after 0 chip enable_frame) (cycle_frame kind a sent) =
-    c.send.ensures.chip ∙ ap (λ x. after last.busy (after 0 x enable_frame) (cycle_frame kind a sent)) c.is-clean-for.ensures.chip in
+    c.send.ensures.chip ∙ ap (λ x. after last.busy (after 0 x enable_frame) (cycle_frame kind a sent)) c.is_clean_for.ensures.chip in
     let clean : Intact o chip → presets kind (blank (page 64 (a / 64) chip.image)) ≡ true = λ i. sym (cleanly o chip kind a n true sound u q.others q.clean i) in
     let d = drives_cycle o _ chip last room kind a sent sound refl refl refl (not-true _ p.idle) p.inside p.fills p.permits clean e in
     record {
@@ -128,6 +128,6 @@ returns g c =
       undone = λ f. absurd (true≢false f);
       image = λ i _. cycle-image o (with_busy true o) chip last room kind a sent sound refl refl refl (not-true _ p.idle) p.inside p.fills p.permits clean e (g.met.P.Port.sound c.send.new.port).0 i;
       due = λ _. omega arith;
-      trace = (looks room kind a ++ (enable_frame ∷ cycle_frame kind a sent ∷ []), g.met.P.Port.joins _ _ _ _ _ c.is-clean-for.ensures.trace c.send.ensures.trace, d);
+      trace = (looks room kind a ++ (enable_frame ∷ cycle_frame kind a sent ∷ []), g.met.P.Port.joins _ _ _ _ _ c.is_clean_for.ensures.trace c.send.ensures.trace, d);
       intact = d.intact;
     }

@@ -10,15 +10,15 @@ pub returns : goal.returns
 returns g c =
     let o : Outline = c.args.self.now.outline in
     let chip : Chip = g.P.Port.chip c.args.self.now.port in
-    let e = c.is-busy-busy.ensures.chip in
+    let e = c.is_busy-busy.ensures.chip in
     let b : c.if-self.self ≡ (o.busy && not (eqb chip.busy 0)) = elim c.if-self.branch [
-      | then-self w ↦ w.self-is ∙ c.is-busy-busy.ensures.busy ∙ sym (ap (λ x. x && not (eqb chip.busy 0)) w.if-self.true)
+      | then-self w ↦ w.self-is ∙ c.is_busy-busy.ensures.busy ∙ sym (ap (λ x. x && not (eqb chip.busy 0)) w.if-self.true)
       | else-self w ↦ w.self-is ∙ w.if-self.false ∙ sym (ap (λ x. x && not (eqb chip.busy 0)) w.if-self.false)
     ] in
-    let d = drives_poll o _ chip (g.P.Port.chip c.is-busy-busy.new.port) refl refl b e in
+    let d = drives_poll o _ chip (g.P.Port.chip c.is_busy-busy.new.port) refl refl b e in
     record {
-      idle = seen-idle (with_busy c.if-self.self o) (g.P.Port.chip c.is-busy-busy.new.port);
-      waited = seen-waited o (with_busy c.if-self.self o) chip (g.P.Port.chip c.is-busy-busy.new.port) refl refl b e;
-      trace = (status_frame ∷ [], c.is-busy-busy.ensures.trace, d);
+      idle = seen-idle (with_busy c.if-self.self o) (g.P.Port.chip c.is_busy-busy.new.port);
+      waited = seen-waited o (with_busy c.if-self.self o) chip (g.P.Port.chip c.is_busy-busy.new.port) refl refl b e;
+      trace = (status_frame ∷ [], c.is_busy-busy.ensures.trace, d);
       intact = d.intact;
     }

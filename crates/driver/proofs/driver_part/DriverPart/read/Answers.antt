@@ -21,7 +21,7 @@ pub read-requires : goal.read-requires
 read-requires g c =
     let o : Outline = c.args.self.now.outline in
     small o c.args.address (length c.args.into.now)
-    (read-inside (outlined o) (not o.busy) c.args.address (length c.args.into.now) (sym c.in-default.ensures)).0
+    (read-inside (outlined o) (not o.busy) c.args.address (length c.args.into.now) (sym c.in_default.ensures)).0
 
 pub returns-in-Some : goal.returns-in-Some
 returns-in-Some g c =
@@ -45,7 +45,7 @@ returns g c =
     let n : ℕ = length c.args.into.now in
     let room : ℕ = g.P.Port.longest c.args.self.now.port - 4 in
     let sound = (g.met.P.Port.sound c.args.self.now.port).0 in
-    let v = c.in-default.ensures in
+    let v = c.in_default.ensures in
     let w = v ∙ outlines_read o (seen o chip) a n (seen_outline o chip) in
     let within = read-inside (outlined o) (not o.busy) a n (sym v) in
     let few = small o a n within.0 in

@@ -12,5 +12,5 @@ returns-then-protected g c =
 pub returns-else-protected : goal.returns-else-protected
 returns-else-protected g c =
     let f = c.args.self.now in
-    fenced-protection (g.P.Part.meaning f.part) (g.met.P.Part.sound f.part) f.closed c.args.sector c.in-Ok.protected c.is-closed.result
-    c.in-Ok.ensures (c.is-closed.ensures ∙ sym (ap (λ b. b || is_closed f.closed c.args.sector) c.if-protected.false))
+    fenced-protection (g.P.Part.meaning f.part) (g.met.P.Part.sound f.part) f.closed c.args.sector c.in-Ok.protected c.is_closed.result
+    c.in-Ok.ensures (c.is_closed.ensures ∙ sym (ap (λ b. b || is_closed f.closed c.args.sector) c.if-protected.false))

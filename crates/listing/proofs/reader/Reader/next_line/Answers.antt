@@ -8,13 +8,13 @@ use Rattle.listing.proofs.reader.Reader.next_line.Goals as goal
 pub returns-then-rest-eq0 : goal.returns-then-rest-eq0
 returns-then-rest-eq0 c = (nil_from_length c.args.self.now.rest.now (omega arith), (refl, refl))
 
-pub returns-in-err-extent : goal.returns-in-err-extent
-returns-in-err-extent c =
+pub returns-in_err-extent : goal.returns-in_err-extent
+returns-in_err-extent c =
     let l = c.args.self.now.line in
     let s = c.args.self.now.rest.now in
     let some : s ≡ [] → ⊥ = λ e. (let n = ap length e in omega arith) in
-    let h = halted l s c.in-err-extent.field-0.0 (scan s) c.in-err-extent.ensures.same (line-sound l s some) in
-    let p = err_from_is_err_and c.from-residual.result c.from-residual.ensures.1 in
+    let h = halted l s c.in_err-extent.field-0.0 (scan s) c.in_err-extent.ensures.same (line-sound l s some) in
+    let p = err_from_is_err_and c.from_residual.result c.from_residual.ensures.1 in
     rw (p.1, p.2) (h.0, h.1, h.2, (refl, refl))
 
 pub returns : goal.returns
@@ -22,6 +22,6 @@ returns c =
     let l = c.args.self.now.line in
     let s = c.args.self.now.rest.now in
     let some : s ≡ [] → ⊥ = λ e. (let n = ap length e in omega arith) in
-    taken l c.len.result s c.in-ok-extent.extent c.items-line.result
-    (found l s c.in-ok-extent.extent (scan s) c.in-ok-extent.ensures.same (line-sound l s some))
+    taken l c.len.result s c.in_ok-extent.extent c.items-line.result
+    (found l s c.in_ok-extent.extent (scan s) c.in_ok-extent.ensures.same (line-sound l s some))
     c.items-line.ensures c.len.ensures
