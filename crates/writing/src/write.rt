@@ -47,8 +47,8 @@ fn carry_out<P: Part>(
     data: &mut [u8],
     limit: usize,
 ) -> Result<(usize, usize), WriteFault>
-    requires limit_value { (allowed limit ≡ true) × (address + length bytes.now ≤ size (P.Part.meaning part.old).shape) × ((P.Part.meaning part.old).due ≡ 0) }
-    requires by_index { (i : ℕ) → slice_index bytes.now i < 256 }
+    requires idle { (allowed limit ≡ true) × (address + length bytes.now ≤ size (P.Part.meaning part.old).shape) × ((P.Part.meaning part.old).due ≡ 0) }
+    requires byte { (i : ℕ) → slice_index bytes.now i < 256 }
     ensures { P.Part.intact part.old → Carried P.Part.meaning P.Part.trace P.Part.intact limit address bytes.now (buffers steps.old steps.new «data».old «data».new) part.old part.new result }
 {
     let (cycles, sent) = match plan(part, address, bytes, steps, data) {
