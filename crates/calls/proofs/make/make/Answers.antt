@@ -15,10 +15,10 @@ pub returns-in-Read : goal.returns-in-Read
 returns-in-Read g c =
     let f : Fence g.row.P.Denot = c.args.fence.now in
     let e = c.read.ensures in
-    let a = c.part-answer-answer-in-Read.ensures in
-    let lent : List ℕ = c.deref-mut.result.now in
-    let value = c.deref-mut.ensures.value in
-    let n : length lent ≡ vec_len c.in-Read.into = omega (arith, c.deref-mut.ensures.len) in
+    let a = c.part_answer-answer-in-Read.ensures in
+    let lent : List ℕ = c.deref_mut.result.now in
+    let value = c.deref_mut.ensures.value in
+    let n : length lent ≡ vec_len c.in-Read.into = omega (arith, c.deref_mut.ensures.len) in
     let long : length c.read.new.into ≡ vec_len c.in-Read.into = omega (arith, c.read.auto.into, n) in
     let items = with_items_is c.in-Read.into c.read.new.into long in
     record {
@@ -41,7 +41,7 @@ pub returns-in-Write : goal.returns-in-Write
 returns-in-Write g c =
     let f : Fence g.row.P.Denot = c.args.fence.now in
     let h : Fence g.row.P.Denot = c.write.new.part in
-    let a = c.write-answer-answer.ensures in
+    let a = c.write_answer-answer.ensures in
     let b = buffers c.args.steps.now c.write.new.steps c.args.data.now c.write.new.data in
     let w = subst (λ (x : List ℕ). Wrote (meant g.P.Part.meaning g.P.Part.trace) (Traced g.P.Part.meaning g.P.Part.trace) (λ x. g.P.Part.intact x.part) c.in-Write.limit c.in-Write.address x b f h c.write.result)
     c.deref.ensures.value c.write.ensures in

@@ -17,38 +17,38 @@ Here g steps room p es f = SoFar g.P.Part.meaning g.P.Part.trace steps room p es
 pub loop-call-init : goal.loop-call-init
 unfolding Here
 loop-call-init g c =
-    let made = c.in-Ok.ensures.made in
-    let became = c.into-iter-call-iterator.ensures.into-iter-gives in
-    let l : List Call = into_iter_items c.into-iter-call-iterator.result in
+    let made = c.in-Ok.ensures in
+    let became = c.into_iter-call-iterator.ensures.into_iter_gives in
+    let l : List Call = into_iter_items c.into_iter-call-iterator.result in
     let n = length c.args.steps.now in
     let d = length c.args.data.now in
     let fence : Fence g.row.P.Denot = c.new-fence.result in (
       tt,
       tt,
-      subst (λ (es : List Entry). Records l es l) (sym made.0) refl,
-      omega (arith, made.1, c.len.ensures, became.1),
+      subst (λ (es : List Entry). Records l es l) (sym made.items) refl,
+      omega (arith, made.len, made.capacity, c.len.ensures, became.1),
       λ i. (
-        subst (λ (es : List Entry). Here g n d fence.part es fence) (sym made.0)
+        subst (λ (es : List Entry). Here g n d fence.part es fence) (sym made.items)
             (subst (λ (x : Fence g.row.P.Denot). Here g n d x.part [] x) (sym c.new-fence.ensures) (so_far_none g.P.Part.meaning g.P.Part.trace n d c.args.part)),
         i,
       ),
     )
 
-pub push-reserved-requires : goal.push-reserved-requires
-push-reserved-requires g c = omega (arith, c.loop-call.invariant.3, c.in-Some.ensures.steps.1)
+pub push_reserved-requires : goal.push_reserved-requires
+push_reserved-requires g c = omega (arith, c.loop-call.invariant.3, c.in-Some.ensures.steps.1)
 
 pub loop-call-preserved : goal.loop-call-preserved
 unfolding Here
 loop-call-preserved g c =
     let step = c.in-Some.ensures.steps in
     let inv = c.loop-call.invariant in
-    let l : List Call = into_iter_items c.into-iter-call-iterator.result in
+    let l : List Call = into_iter_items c.into_iter-call-iterator.result in
     let es : List Entry = vec_items c.loop-call.record in
     let e : Entry = c.make.result in
     let n = length c.args.steps.now in
     let d = length c.args.data.now in
     let p = c.new-fence.result.part in
-    let pushed = c.push-reserved.ensures in (
+    let pushed = c.push_reserved.ensures in (
       tt,
       tt,
       subst (λ (x : List Entry). Records l x (into_iter_items c.next.new.self)) (sym pushed.items)
@@ -74,8 +74,8 @@ returns g c =
     let d = length c.args.data.now in
     let none : into_iter_items c.loop-call.call-iterator ≡ [] =
     nil_from_length _ (sym c.loop-call.call-iterator.rest.ok.0 ∙ c.in-None.ensures.steps.0) in (
-      subst (λ (x : List Call). Records x es []) c.into-iter-call-iterator.ensures.into-iter-gives.0
-          (subst (λ (x : List Call). Records (into_iter_items c.into-iter-call-iterator.result) es x) none inv.2),
+      subst (λ (x : List Call). Records x es []) c.into_iter-call-iterator.ensures.into_iter_gives.0
+          (subst (λ (x : List Call). Records (into_iter_items c.into_iter-call-iterator.result) es x) none inv.2),
       λ i.
           let e = c.new-fence.ensures in
           let whole = subst (λ (x : Fence g.row.P.Denot). g.P.Part.intact x.part) (sym e) i in
