@@ -14,8 +14,8 @@ few c m e =
     let b = and_parts _ _ a.1 in
     let d = and_parts _ _ b.1 in product_most m.sectors m.pages (leb-true _ _ b.0) (leb-true _ _ d.1)
 
-pub overflow-mul-model : goal.overflow-mul-model
-overflow-mul-model c = let h = few c.args.capacity c.in-Some.model (sym c.in-Some.ensures) in omega arith
+pub overflow_mul-model : goal.overflow_mul-model
+overflow_mul-model c = let h = few c.args.capacity c.in-Some.model (sym c.in-Some.ensures) in omega arith
 
-pub overflow-mul-model-2 : goal.overflow-mul-model-2
-overflow-mul-model-2 c = let h = few c.args.capacity c.in-Some.model (sym c.in-Some.ensures) in omega arith
+pub overflow_mul-model-2 : goal.overflow_mul-model-2
+overflow_mul-model-2 c = let h = few c.args.capacity c.in-Some.model (sym c.in-Some.ensures) in omega arith

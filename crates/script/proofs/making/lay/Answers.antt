@@ -18,5 +18,5 @@ returns c =
     let h : at + length w ≤ length l = omega arith in
     record {
       inside = sym (le-leb _ _ h);
-      laid = placed at (at + length w - at) l w c.copy-from-slice.new.self c.copy-from-slice.ensures.after (omega arith);
+      laid = placed at (at + length w - at) l w c.copy_from_slice.new.self c.copy_from_slice.ensures.after (omega arith);
     }

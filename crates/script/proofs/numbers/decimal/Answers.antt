@@ -21,14 +21,14 @@ large w some all h =
 pub returns-in-Ok : goal.returns-in-Ok
 returns-in-Ok c =
     let word = c.args.word.now in
-    let all : all_ascii_digits word ≡ true = ap all_ascii_digits (sym c.as-bytes.ensures.value) ∙ sym c.if-not-are-digits.ensures in
+    let all : all_ascii_digits word ≡ true = ap all_ascii_digits (sym c.as_bytes.ensures.value) ∙ sym c.if-not-are_digits.ensures in
     let h = parse_digits own 64 word c.parse.result c.parse.ensures.value.0 all in
     let k = OkIff-at_ok _ _ _ c.in-Ok.n h c.in-Ok.is in fits word c.in-Ok.n k.0.0 all k.0.1 k.1
 
 pub returns-in-Err : goal.returns-in-Err
 returns-in-Err c =
     let word = c.args.word.now in
-    let all : all_ascii_digits word ≡ true = ap all_ascii_digits (sym c.as-bytes.ensures.value) ∙ sym c.if-not-are-digits.ensures in
+    let all : all_ascii_digits word ≡ true = ap all_ascii_digits (sym c.as_bytes.ensures.value) ∙ sym c.if-not-are_digits.ensures in
     let some : 0 < length word = search rules in
     let h = parse_digits own 64 word c.parse.result c.parse.ensures.value.0 all in
     large word some all (λ l. OkIff-at_err _ _ _ _ h c.in-Err.is (some, l))

@@ -12,13 +12,13 @@ five o a b c d e =
 pub returns : goal.returns
 returns c =
     let entry = c.args.entry.now in
-    let called = c.as-bytes.ensures.value ∙ c.in-ok-called.ensures in
-    let answered = c.as-bytes-2.ensures.value ∙ c.in-ok-answered.ensures in
-    let p = c.in-ok-extend-from-slice.ensures.items in
-    let q = c.in-ok-extend-from-slice-2.ensures.items in
-    let r = c.in-ok-extend-from-slice-3.ensures.items in
-    let s = c.in-ok-show-read.ensures in
-    let t = c.in-ok-push.ensures.items in
+    let called = c.as_bytes.ensures.value ∙ c.in_ok-called.ensures in
+    let answered = c.as_bytes-2.ensures.value ∙ c.in_ok-answered.ensures in
+    let p = c.in_ok-extend_from_slice.ensures.items in
+    let q = c.in_ok-extend_from_slice-2.ensures.items in
+    let r = c.in_ok-extend_from_slice-3.ensures.items in
+    let s = c.in_ok-show_read.ensures in
+    let t = c.in_ok-push.ensures.items in
     let w =
     five (vec_items c.args.out.now) (call_text entry.call) (codes ": ") (answer_text entry.answer)
     (read_text entry.call entry.answer) (10 ∷ []) in cc
