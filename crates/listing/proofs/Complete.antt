@@ -1,12 +1,11 @@
 -- What the grammar says of a line is what the reader finds, so a text reads in one way.
-use Rattle.std.proofs.Common.{◌≡◌, ℕ, ◌+◌, ◌-◌, ◌<◌, ◌≤◌, Bool, true, false, cond, not, ◌&&◌, eqb, List, [], ◌∷◌, ◌++◌, length, get_or, take, drop, Some, None, Ok, Err, Option, Result, sym, refl, ap, ◌∙◌, subst, append_assoc, arith, length-append}
-use Rattle.std.proofs.lemmas.Bool.{eq-eqb, ne_eqb, eqb-true, eqb-false}
-use Rattle.std.proofs.lemmas.Bool.Decides.{nat_tests}
+use Rattle.std.proofs.Common.{◌≡◌, ℕ, ◌+◌, ◌-◌, ◌<◌, Bool, true, false, cond, not, ◌&&◌, eqb, List, [], ◌∷◌, ◌++◌, length, get_or, drop, Some, None, Ok, Err, Option, Result, sym, refl, ap, ◌∙◌, subst, append_assoc, arith, length-append}
+use Rattle.std.proofs.lemmas.Bool.{ne_eqb, eqb-true, eqb-false}
 use Rattle.std.proofs.lemmas.List.{append-nil}
 use Rattle.listing.specs.declared.extent.Extent.{Extent}
 use Rattle.listing.specs.declared.extent.Extent.TheVariants.{Note, Frame, Counted}
 use Rattle.listing.specs.Hex.{Pair, pair, Pairs, one, more}
-use Rattle.listing.specs.Grammar.{Unbroken, none, byte, LineText, noted, framed, counted, Place, start, in_note, paired, spaced, marked, wanted, told, Step, opens, notes, first, spaces, next, marks, parts, counts, Ends, note-ends, frame-ends, count-ends, Spells, here, step, Stuck, Stops}
+use Rattle.listing.specs.Grammar.{Unbroken, none, byte, LineText, noted, framed, counted, Place, start, in_note, paired, spaced, marked, wanted, told, Step, opens, notes, first, spaces, next, marks, parts, counts, note-ends, frame-ends, count-ends, Spells, here, step, Stuck, Stops}
 use Rattle.listing.specs.Parts.{Spot, Exchange}
 use Rattle.listing.specs.Scan.{pair_of, on_pair, goes_on, at_end, at_count, at_mark, closing, pairs, inside, scan, size_of, spots_by}
 use Rattle.listing.proofs.Lined.{spots_note, spots_frame, spots_count}

@@ -1,7 +1,7 @@
 -- Pairs as they are spelled and as they are read.
-use Rattle.std.proofs.Common.{◌≡◌, ℕ, ◌+◌, ◌*◌, ◌<◌, ◌≤◌, Bool, true, false, cond, eqb, ltb, leb, List, [], ◌∷◌, ◌++◌, length, get_or, take, drop, Some, None, Option, sym, refl, ap, ◌∙◌, subst, arith}
+use Rattle.std.proofs.Common.{◌≡◌, ℕ, ◌+◌, ◌*◌, ◌<◌, ◌≤◌, List, [], ◌∷◌, ◌++◌, length, get_or, drop, Some, None, Option, sym, refl, ap, ◌∙◌, subst, arith}
 use Rattle.std.proofs.lemmas.Bool.Decides.{nat_tests}
-use Rattle.listing.specs.Hex.{glyph, Pair, pair, Pairs, one, more}
+use Rattle.listing.specs.Hex.{glyph, Pair, pair}
 use Rattle.listing.specs.Scan.{digit_of, joined, pair_of}
 
 pub digit-read : (h : ℕ) → h < 16 → digit_of (glyph h) ≡ Some h

@@ -5,10 +5,9 @@ use Rattle.std.specs.List.{AllByRecursion as All}
 use Rattle.std.proofs.lemmas.Bool.{cases_eq}
 use Rattle.listing.specs.declared.item.Placed.{Placed}
 use Rattle.listing.specs.Hex.{glyph, Pair, pair, Pairs, one, more}
-use Rattle.listing.specs.Parts.{Part, note, frame, count, Spot, spot, part_of, count_of, Exchange, exchange}
+use Rattle.listing.specs.Parts.{Part, Spot, part_of, count_of, Exchange, exchange}
 use Rattle.listing.specs.Grammar.{LineText, noted, framed, counted, Ending, ended, failed, Reads, over, broken, line}
 use Rattle.listing.specs.Writing.{pair_text, spaced_text, pairs_text, back_text, line_text, listing, Noteless, laid, text_of, frame_text, held, kept_count, kept_from, kept_of, ReadsAlone}
-use Rattle.listing.proofs.Digits.{pair_size}
 use Rattle.listing.proofs.Laying.{back_some, laid_join}
 
 pub kept_other : (p : Part) (o : Option _) (is : List Spot) → o ≡ None → held o ≡ frame_text p → kept_from (frame_text p) is ≡ []

@@ -1,15 +1,14 @@
 -- A line as the reader finds it and as the grammar has it.
-use Rattle.std.proofs.Common.{◌≡◌, ℕ, ◌+◌, ◌-◌, ◌<◌, ◌≤◌, Bool, true, false, cond, eqb, List, [], ◌∷◌, ◌++◌, length, get_or, take, drop, Ok, Err, Result, sym, refl, ap, ◌∙◌, subst, append_assoc, arith, length-append}
+use Rattle.std.proofs.Common.{◌≡◌, ℕ, ◌+◌, ◌-◌, Bool, true, false, cond, eqb, List, [], ◌∷◌, ◌++◌, length, get_or, take, drop, Ok, Err, Result, sym, refl, ap, ◌∙◌, subst, append_assoc, arith, length-append}
 use Rattle.std.proofs.lemmas.Bool.{eqb-true, eqb-false}
 use Rattle.std.proofs.lemmas.List.{take_at, drop_at, take_rest}
 use Rattle.listing.specs.declared.extent.Extent.{Extent}
 use Rattle.listing.specs.declared.extent.Extent.TheVariants.{Note, Frame, Counted}
-use Rattle.listing.specs.Hex.{Pair, Pairs}
 use Rattle.listing.specs.declared.fault.ListingFault.{ListingFault}
 use Rattle.listing.specs.declared.fault.ListingFault.TheVariants.{Malformed}
 use Rattle.listing.specs.declared.item.Line.{Line}
 use Rattle.listing.specs.Parts.{note, frame, count, Spot, spot, spots_of, Exchange, exchange}
-use Rattle.listing.specs.Grammar.{LineText, noted, framed, counted, start, in_note, opens, step, Stops}
+use Rattle.listing.specs.Grammar.{LineText, noted, framed, counted, start, opens, Stops}
 use Rattle.listing.specs.Fault.{row, malformed_at}
 use Rattle.listing.specs.Scan.{pairs, inside, scan, refused, size_of, spots_by}
 use Rattle.listing.specs.Promise.{Taken}

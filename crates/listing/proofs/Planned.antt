@@ -1,5 +1,5 @@
 -- The frames of steps, and their text.
-use Rattle.std.proofs.Common.{◌≡◌, ℕ, zero, suc, ◌+◌, ◌*◌, ◌<◌, ◌≤◌, Bool, true, false, cond, ◌&&◌, ltb, leb, List, [], ◌∷◌, ◌++◌, map, length, get_or, take, drop, Some, None, Ok, Err, Option, sym, refl, ap, ◌∙◌, subst, ap₂, append_assoc, arith, lit<, lit≤, length-append, length-take}
+use Rattle.std.proofs.Common.{◌≡◌, ℕ, zero, suc, ◌+◌, ◌*◌, ◌<◌, ◌≤◌, Bool, true, false, cond, List, [], ◌∷◌, ◌++◌, length, get_or, take, drop, Some, None, Ok, Err, Option, sym, refl, ap, ◌∙◌, subst, ap₂, arith, lit≤, length-append, length-take}
 use Rattle.std.proofs.lemmas.List.{append-nil, map-append, drop_more, drop_all, take_more, take-append-drop}
 use Rattle.std.proofs.lemmas.Bool.{cond-true, cond-false, and_parts, leb-true, ltb-true, le-leb, lt-leb}
 use Rattle.memory.specs.declared.kind.Kind.{Kind}
@@ -16,8 +16,8 @@ use Rattle.least.specs.declared.step.Step.{Step}
 use Rattle.least.specs.Steps.{step_cycle, cycles_of, sent_by}
 use Rattle.listing.specs.declared.plan_fault.PlanListingFault.{PlanListingFault}
 use Rattle.listing.specs.declared.plan_fault.PlanListingFault.TheVariants.{TextShort}
-use Rattle.listing.specs.Parts.{Exchange, exchange}
-use Rattle.listing.specs.PlanFault.{addressed, lies, filled, unlisted, or_else, first_unlisted}
+use Rattle.listing.specs.Parts.{exchange}
+use Rattle.listing.specs.PlanFault.{lies, filled, unlisted, or_else, first_unlisted}
 use Rattle.listing.specs.PlanFrames.{enabling, sending, plan_frames, operation_of, plan_text, answered}
 use Rattle.listing.specs.Writing.{line_text, listing, laid}
 use Rattle.listing.proofs.Keeping.{listing_join}

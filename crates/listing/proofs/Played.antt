@@ -1,7 +1,7 @@
 -- The frames of cycles, played on a chip that accepts them.
-use Rattle.std.proofs.Common.{◌≡◌, ℕ, zero, suc, ◌+◌, ◌-◌, ◌*◌, ◌/◌, ◌<◌, ◌≤◌, Bool, true, false, cond, not, ◌&&◌, eqb, ltb, leb, List, [], ◌∷◌, ◌++◌, length, is_some, Some, None, Option, sym, refl, ap, ◌∙◌, subst, ap₂, arith}
+use Rattle.std.proofs.Common.{◌≡◌, ℕ, zero, suc, ◌-◌, ◌*◌, ◌<◌, ◌≤◌, Bool, true, false, cond, not, ◌&&◌, eqb, ltb, leb, List, [], ◌∷◌, ◌++◌, length, is_some, Some, None, Option, sym, refl, ap, ◌∙◌, subst, ap₂, arith}
 use Rattle.std.proofs.lemmas.Bool.{cond-true, eq-eqb, and_parts, and_from, ltb-true, leb-true, lt-ltb, false≢true}
-use Rattle.memory.specs.Shape.{Shape, size, sector_at}
+use Rattle.memory.specs.Shape.{size, sector_at}
 use Rattle.memory.specs.Protection.{protects}
 use Rattle.memory.specs.Cycle.{Cycle, program, alter, preset, sector_erase, bulk_erase, Goes, accepts, effect}
 use Rattle.memory.specs.Image.{reaches}
@@ -11,17 +11,17 @@ use Rattle.memory.proofs.Models.{page-bytes, known_range}
 use Rattle.memory.proofs.Pages.{Real}
 use Rattle.memory.proofs.Cycles.{length-effect}
 use Rattle.memory.proofs.Sizes.{product_most}
-use Rattle.port.specs.declared.instruction.Operation.TheVariants.{Program, Alter, Preset, SectorErase, BulkErase}
+use Rattle.port.specs.declared.instruction.Operation.TheVariants.{Program, Alter, Preset, SectorErase}
 use Rattle.port.specs.Instructions.{table}
 use Rattle.port.specs.Build.{built, listed}
-use Rattle.port.specs.Chip.{Chip, Sound, shape}
+use Rattle.port.specs.Chip.{Chip, shape}
 use Rattle.port.specs.Machine.{Ask, enable, status, cycle, heard, hears, ordered, act, after, done, latched, waited, takes}
 use Rattle.port.specs.Laws.{starts, carried_by}
 use Rattle.port.proofs.Building.{understood}
 use Rattle.port.proofs.Lawful.{cycled}
 use Rattle.listing.specs.Parts.{Exchange}
 use Rattle.listing.specs.PlanFrames.{enabling, sending, plan_frames}
-use Rattle.listing.specs.Playing.{frame_of, status_read, once, Plays, ends, sends, polls, Effected, HasEffect}
+use Rattle.listing.specs.Playing.{frame_of, status_read, once, Plays, ends, sends, polls, HasEffect}
 
 -- a chip whose image has the length that its capacity byte says
 record Formed (c : Chip) : Type 0 where

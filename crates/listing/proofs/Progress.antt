@@ -1,11 +1,11 @@
 -- A text read line by line.
-use Rattle.std.proofs.Common.{◌≡◌, ℕ, ◌+◌, ◌<◌, ◌≤◌, List, [], ◌∷◌, ◌++◌, length, drop, Some, None, Ok, Err, Option, sym, refl, ap, ◌∙◌, subst, append_assoc, arith, length-append}
+use Rattle.std.proofs.Common.{◌≡◌, ℕ, ◌+◌, ◌<◌, ◌≤◌, List, [], ◌∷◌, ◌++◌, length, drop, Some, None, Ok, Option, sym, refl, ap, ◌∙◌, subst, append_assoc, arith, length-append}
 use Rattle.std.proofs.lemmas.List.{append-nil}
 use Rattle.listing.specs.declared.fault.ListingFault.{ListingFault}
 use Rattle.listing.specs.declared.item.Line.{Line}
 use Rattle.listing.specs.Fault.{row, malformed_at}
 use Rattle.listing.specs.Parts.{Spot, spots_of, Exchange}
-use Rattle.listing.specs.Grammar.{LineText, Stops, Ending, ended, failed, Reads, over, broken, line}
+use Rattle.listing.specs.Grammar.{Stops, Ending, ended, failed, Reads, over, broken, line}
 use Rattle.listing.specs.Promise.{Taken, Next, Measured, Refuses, Copied}
 use Rattle.listing.specs.Writing.{listing, laid, kept_of}
 use Rattle.listing.proofs.Keeping.{listing_join, line_kept, kept-size}

@@ -1,5 +1,5 @@
 -- The frames of steps are bytes, so their listing reads back.
-use Rattle.std.proofs.Common.{◌≡◌, ℕ, zero, suc, ◌/◌, ◌%◌, ◌<◌, Bool, true, false, List, [], ◌∷◌, ◌++◌, length, get_or, take, drop, replicate, refl, arith, lit<}
+use Rattle.std.proofs.Common.{ℕ, zero, suc, ◌/◌, ◌%◌, ◌<◌, Bool, true, false, List, [], ◌∷◌, get_or, drop, replicate, arith, lit<}
 use Rattle.std.specs.List.{AllByRecursion as All}
 use Rattle.std.proofs.ByRecursion.{All-from_get_or, All-append, All-take, All-drop}
 use Rattle.memory.specs.Page.{block}
@@ -13,7 +13,7 @@ use Rattle.port.specs.Build.{built, listed, high_first, carried_by}
 use Rattle.least.specs.declared.step.Step.{Step}
 use Rattle.least.specs.Steps.{step_cycle, cycles_of, sent_by}
 use Rattle.listing.specs.Parts.{exchange}
-use Rattle.listing.specs.PlanFrames.{enabling, sending, plan_frames}
+use Rattle.listing.specs.PlanFrames.{sending, plan_frames}
 use Rattle.listing.specs.Writing.{AllReadBack}
 use Rattle.listing.proofs.Keeping.{Bytes, Sendable, sendable, all_read}
 

@@ -1,15 +1,13 @@
 -- A text reads in one way.
-use Rattle.std.proofs.Common.{◌≡◌, ℕ, ◌+◌, ◌-◌, ◌<◌, ◌≤◌, List, [], ◌∷◌, ◌++◌, length, take, drop, Some, None, Ok, Err, Option, Result, sym, refl, ap, ◌∙◌, subst, append_assoc, arith, length-append}
+use Rattle.std.proofs.Common.{◌≡◌, ℕ, ◌+◌, ◌-◌, List, [], ◌∷◌, ◌++◌, length, take, drop, Some, None, Option, sym, refl, ap, ◌∙◌, subst, arith, length-append}
 use Rattle.std.proofs.lemmas.List.{append-nil, take_at, drop_at}
-use Rattle.listing.specs.declared.extent.Extent.{Extent}
-use Rattle.listing.specs.Hex.{Pair, Pairs}
-use Rattle.listing.specs.Parts.{Part, note, frame, count, Spot, spot, Exchange, exchange}
+use Rattle.listing.specs.Parts.{Part, note, frame, count, Spot, Exchange, exchange}
 use Rattle.listing.specs.Grammar.{LineText, noted, framed, counted, Stops, Ending, ended, failed, Reads, over, broken, line, Unambiguous}
 use Rattle.listing.specs.Scan.{pair_of, scan, size_of, spots_by}
 use Rattle.listing.specs.Values.{values, good}
 use Rattle.listing.proofs.Digits.{pair_read}
 use Rattle.listing.proofs.Spelling.{values-read}
-use Rattle.listing.proofs.Complete.{stops_read, Seen, line_read}
+use Rattle.listing.proofs.Complete.{stops_read, line_read}
 
 -- what the items of a line ask for
 abbrev value_or : Option ℕ → ℕ

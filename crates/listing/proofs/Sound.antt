@@ -1,14 +1,14 @@
 -- What the reader finds in a line is what the grammar says.
-use Rattle.std.proofs.Common.{◌≡◌, ℕ, zero, suc, ◌+◌, ◌-◌, ◌<◌, ◌≤◌, Bool, true, false, cond, eqb, List, [], ◌∷◌, ◌++◌, length, get_or, take, drop, Some, None, Ok, Err, Option, Result, sym, refl, ap, ◌∙◌, subst, append_assoc, arith, length-append}
+use Rattle.std.proofs.Common.{◌≡◌, ℕ, zero, suc, ◌+◌, ◌<◌, ◌≤◌, Bool, true, false, cond, eqb, List, [], ◌∷◌, ◌++◌, length, get_or, drop, Some, None, Ok, Err, Option, Result, sym, refl, ap, ◌∙◌, subst, append_assoc, arith, length-append}
 use Rattle.std.proofs.lemmas.Bool.{eqb-true, eqb-false}
 use Rattle.std.proofs.lemmas.Bool.Decides.{nat_tests}
 use Rattle.std.proofs.lemmas.List.{drop-drop, length-drop}
 use Rattle.listing.specs.declared.extent.Extent.{Extent}
 use Rattle.listing.specs.declared.extent.Extent.TheVariants.{Note, Frame, Counted}
 use Rattle.listing.specs.Hex.{Pair, Pairs, one, more}
-use Rattle.listing.specs.Grammar.{Unbroken, none, byte, Place, start, in_note, paired, spaced, marked, wanted, told, Step, opens, notes, first, spaces, next, marks, parts, counts, Ends, note-ends, frame-ends, count-ends, Spells, here, step, Stuck}
-use Rattle.listing.specs.Scan.{pair_of, on_pair, goes_on, at_end, at_count, at_mark, closing, pairs, inside, scan}
-use Rattle.listing.proofs.Digits.{Leads, pair_read, pair_size, pair_left, pair_first, pair-spelled}
+use Rattle.listing.specs.Grammar.{Unbroken, none, byte, Place, start, in_note, paired, spaced, marked, wanted, told, Step, opens, notes, first, spaces, next, marks, parts, counts, Spells, here, step, Stuck}
+use Rattle.listing.specs.Scan.{pair_of, on_pair, goes_on, at_end, at_count, at_mark, closing, pairs, inside}
+use Rattle.listing.proofs.Digits.{pair_read, pair_size, pair_left, pair-spelled}
 use Rattle.listing.proofs.Drops.{first_left, next_left}
 use Rattle.listing.proofs.Turns.{pairs_turn}
 

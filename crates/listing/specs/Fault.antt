@@ -1,5 +1,5 @@
 -- The rows of the refusals of a listing.
-use Rattle.std.specs.Prelude.{ℕ, List, [], ◌∷◌}
+use Rattle.std.specs.Prelude.{ℕ, [], ◌∷◌}
 use Rattle.memory.specs.Row.{Row, rowed}
 use Rattle.listing.specs.declared.fault.ListingFault.{ListingFault}
 use Rattle.listing.specs.declared.fault.ListingFault.TheVariants.{Malformed, TextShort}

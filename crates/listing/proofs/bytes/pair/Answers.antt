@@ -1,4 +1,4 @@
-use Rattle.std.proofs.Common.{◌≡◌, ◌+◌, ◌<◌, length, get_or, Some, None, sym, refl, ap, ◌∙◌, arith, rules}
+use Rattle.std.proofs.Common.{◌+◌, get_or, Some, None, sym, refl, ap, ◌∙◌, arith}
 use Rattle.listing.specs.Scan.{digit_of}
 use Rattle.listing.proofs.Drops.{pair_at}
 use Rattle.listing.proofs.bytes.pair.Goals as goal

@@ -1,4 +1,4 @@
-use Rattle.std.proofs.Common.{◌≡◌, ◌+◌, ◌<◌, ◌≤◌, length, drop, sym, refl, ap, ◌∙◌, arith}
+use Rattle.std.proofs.Common.{◌≡◌, ◌+◌, ◌<◌, length, drop, sym, ap, ◌∙◌, arith}
 use Rattle.listing.specs.Values.{values, tallied}
 use Rattle.listing.proofs.Spelling.{values_none, values_last, values_more, values-broken, tallied-before}
 use Rattle.listing.proofs.pairs.count_pairs.Goals as goal

@@ -1,4 +1,4 @@
-use Rattle.std.proofs.Common.{◌≡◌, ℕ, ◌+◌, ◌<◌, ◌≤◌, List, length, None, Ok, Err, sym, refl, ap, ◌∙◌, arith}
+use Rattle.std.proofs.Common.{◌<◌, ◌≤◌, length, Ok, Err, sym, ap, ◌∙◌, arith}
 use Rattle.least.specs.Steps.{cycles_of}
 use Rattle.listing.specs.declared.plan_fault.PlanListingFault.TheVariants.{TextShort}
 use Rattle.listing.specs.PlanFrames.{plan_text, answered, kept}

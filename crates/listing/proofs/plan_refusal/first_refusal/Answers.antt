@@ -1,4 +1,4 @@
-use Rattle.std.proofs.Common.{◌≡◌, sym, ◌∙◌}
+use Rattle.std.proofs.Common.{sym, ◌∙◌}
 use Rattle.listing.proofs.Planned.{first_here, first_past, first_end}
 use Rattle.listing.proofs.plan_refusal.first_refusal.Goals as goal
 

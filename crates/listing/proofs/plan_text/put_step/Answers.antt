@@ -1,4 +1,4 @@
-use Rattle.std.proofs.Common.{◌≡◌, ℕ, ◌+◌, ◌*◌, ◌<◌, ◌≤◌, List, [], ◌∷◌, ◌++◌, length, sym, refl, ap, ◌∙◌, ap₂, arith, length-append}
+use Rattle.std.proofs.Common.{◌≡◌, [], length, sym, ap, ◌∙◌, ap₂, arith}
 use Rattle.port.specs.declared.instruction.Operation.TheVariants.{WriteEnable}
 use Rattle.port.specs.Build.{built}
 use Rattle.least.specs.Steps.{step_cycle}

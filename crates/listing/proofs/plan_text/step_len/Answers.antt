@@ -1,7 +1,6 @@
-use Rattle.std.proofs.Common.{◌≡◌, ◌+◌, ◌*◌, ◌≤◌, length, sym, ap, ◌∙◌, arith}
+use Rattle.std.proofs.Common.{length, ap, ◌∙◌, arith}
 use Rattle.memory.specs.Page.{block}
 use Rattle.port.specs.Build.{listed}
-use Rattle.listing.specs.PlanFrames.{operation_of}
 use Rattle.listing.proofs.Planned.{frame-size, sent_most, step-size}
 use Rattle.listing.proofs.plan_text.step_len.Goals as goal
 

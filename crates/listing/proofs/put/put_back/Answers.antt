@@ -1,5 +1,5 @@
-use Rattle.std.proofs.Common.{◌≡◌, ◌+◌, length, sym, ap, ◌∙◌, arith}
-use Rattle.listing.specs.Writing.{laid, back_text}
+use Rattle.std.proofs.Common.{length, sym, ap, ◌∙◌, arith}
+use Rattle.listing.specs.Writing.{laid}
 use Rattle.listing.proofs.Laying.{laid_none, back_none, back_some, back-laid}
 use Rattle.listing.proofs.put.put_back.Goals as goal
 

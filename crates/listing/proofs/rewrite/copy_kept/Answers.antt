@@ -1,5 +1,5 @@
-use Rattle.std.proofs.Common.{◌≡◌, ℕ, ◌+◌, ◌<◌, ◌≤◌, length, sym, refl, ap, ◌∙◌, subst, arith}
-use Rattle.listing.proofs.Progress.{copying_start, copying_fits, copying_more, copying_end, copying_goes, next_some, next_none, taken_less}
+use Rattle.std.proofs.Common.{arith}
+use Rattle.listing.proofs.Progress.{copying_fits, copying_more, copying_end, copying_goes, next_some, next_none, taken_less}
 use Rattle.listing.proofs.rewrite.copy_kept.Goals as goal
 
 pub keep-at-requires : goal.keep-at-requires

@@ -1,4 +1,4 @@
-use Rattle.std.proofs.Common.{◌≡◌, length, sym, ap, ◌∙◌, arith}
+use Rattle.std.proofs.Common.{length, sym, ap, ◌∙◌}
 use Rattle.listing.proofs.Keeping.{count_kept, count-size}
 use Rattle.listing.proofs.rewrite.count_len.Goals as goal
 

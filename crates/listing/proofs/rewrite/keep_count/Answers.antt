@@ -1,4 +1,4 @@
-use Rattle.std.proofs.Common.{◌≡◌, ◌+◌, ◌≤◌, length, sym, ap, ◌∙◌, arith}
+use Rattle.std.proofs.Common.{length, sym, ap, ◌∙◌, arith}
 use Rattle.listing.specs.Writing.{laid}
 use Rattle.listing.proofs.Keeping.{count_kept, count-size, count-laid}
 use Rattle.listing.proofs.rewrite.keep_count.Goals as goal

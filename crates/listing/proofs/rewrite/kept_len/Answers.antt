@@ -1,4 +1,4 @@
-use Rattle.std.proofs.Common.{◌≡◌, ◌+◌, length, sym, ap, ◌∙◌, arith, length-append}
+use Rattle.std.proofs.Common.{length, ap, ◌∙◌, arith, length-append}
 use Rattle.listing.specs.Parts.{part_of, count_of}
 use Rattle.listing.specs.Writing.{kept_count}
 use Rattle.listing.proofs.Keeping.{frame-kept}

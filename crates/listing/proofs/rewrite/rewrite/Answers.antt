@@ -1,4 +1,4 @@
-use Rattle.std.proofs.Common.{◌≡◌, ◌++◌, length, drop, sym, refl, ap, ◌∙◌}
+use Rattle.std.proofs.Common.{◌++◌, drop, sym, refl, ap, ◌∙◌}
 use Rattle.listing.specs.Writing.{listing}
 use Rattle.listing.proofs.Keeping.{same_text, reads-again}
 use Rattle.listing.proofs.rewrite.rewrite.Goals as goal

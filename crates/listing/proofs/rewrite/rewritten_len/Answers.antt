@@ -1,8 +1,5 @@
-use Rattle.std.proofs.Common.{◌≡◌, ℕ, ◌+◌, ◌^◌, ◌<◌, ◌≤◌, List, length, sym, refl, ap, ◌∙◌, subst, arith}
+use Rattle.std.proofs.Common.{ℕ, ◌+◌, List, sym, subst, arith}
 use Rattle.std.proofs.lemmas.Result.{err_from_is_err_and}
-use Rattle.listing.specs.Parts.{spots_of}
-use Rattle.listing.specs.Promise.{Taken}
-use Rattle.listing.specs.Writing.{kept_of}
 use Rattle.listing.proofs.Progress.{Progress, progress_start, progress_more, progress_end, progress_fails, kept-fits, next_some, next_none, taken_less}
 use Rattle.listing.proofs.Single.{unambiguous}
 use Rattle.listing.proofs.rewrite.rewritten_len.Goals as goal

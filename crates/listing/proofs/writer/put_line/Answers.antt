@@ -1,4 +1,4 @@
-use Rattle.std.proofs.Common.{◌≡◌, ◌+◌, ◌≤◌, length, arith}
+use Rattle.std.proofs.Common.{arith}
 use Rattle.listing.proofs.Laying.{line-size, line-laid}
 use Rattle.listing.proofs.writer.put_line.Goals as goal
 

@@ -1,4 +1,4 @@
-use Rattle.std.proofs.Common.{◌≡◌, ◌+◌, ◌<◌, ◌≤◌, length, get_or, Ok, Err, sym, ap, ◌∙◌, arith}
+use Rattle.std.proofs.Common.{◌+◌, ◌<◌, Err, sym, ap, ◌∙◌, arith}
 use Rattle.listing.specs.Scan.{refused}
 use Rattle.listing.proofs.Turns.{mark_yes, mark_no, count_none, count_zero, count_yes, end_yes, end_no}
 use Rattle.listing.proofs.reader.Reader.count.Goals as goal

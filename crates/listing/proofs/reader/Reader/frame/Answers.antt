@@ -1,4 +1,4 @@
-use Rattle.std.proofs.Common.{◌≡◌, ◌+◌, ◌<◌, ◌≤◌, length, get_or, Ok, Err, sym, ap, ◌∙◌, arith}
+use Rattle.std.proofs.Common.{◌≡◌, ◌<◌, Err, sym, ap, ◌∙◌, arith}
 use Rattle.listing.specs.Scan.{refused}
 use Rattle.listing.proofs.Turns.{closing_end, closing_space, closing_no}
 use Rattle.listing.proofs.reader.Reader.frame.Goals as goal

@@ -1,6 +1,5 @@
-use Rattle.std.proofs.Common.{◌≡◌, ◌+◌, ◌<◌, ◌≤◌, length, sym, ap, ◌∙◌, arith}
+use Rattle.std.proofs.Common.{◌≡◌, length, arith}
 use Rattle.std.proofs.lemmas.Bool.Decides.{nat_tests}
-use Rattle.listing.specs.Scan.{refused}
 use Rattle.listing.proofs.Turns.{inside_more, inside_none}
 use Rattle.listing.proofs.reader.Reader.note.Goals as goal
 

@@ -1,4 +1,4 @@
-use Rattle.std.proofs.Common.{◌≡◌, ◌+◌, ◌<◌, ◌≤◌, length, drop, Err, sym, refl, ap, ◌∙◌, arith}
+use Rattle.std.proofs.Common.{◌≡◌, ◌+◌, drop, Err, sym, refl, ap, ◌∙◌, arith}
 use Rattle.listing.specs.Scan.{pairs, refused}
 use Rattle.listing.proofs.Turns.{pairs_none, pairs_on, pairs_off}
 use Rattle.listing.proofs.reader.Reader.pairs_end.Goals as goal

@@ -1,4 +1,4 @@
-use Rattle.std.proofs.Common.{length, sym, ap, arith}
+use Rattle.std.proofs.Common.{length, ap, arith}
 use Rattle.listing.proofs.Laying.{line-size, back_none, back_some}
 use Rattle.listing.proofs.writer.Frame.line_len.Goals as goal
 
