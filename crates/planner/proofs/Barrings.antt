@@ -1,7 +1,7 @@
 -- The lowest changed byte of pages, and the lowest barred one of sectors.
-use Rattle.std.proofs.Common.{◌≡◌, ℕ, ◌+◌, ◌-◌, ◌*◌, ◌<◌, ◌≤◌, min, Bool, true, false, cond, ltb, ◌⊎◌, List, length, get_or, Some, None, Ok, Err, Option, Result, sym, refl, ap, ◌∙◌, subst, ap₂, inl, inr, ⊎_elim, mul_assoc, add-mul, arith}
+use Rattle.std.proofs.Common.{◌≡◌, ℕ, ◌+◌, ◌-◌, ◌*◌, ◌<◌, ◌≤◌, Bool, true, false, ltb, List, get_or, Some, None, Ok, Option, Result, sym, ap, ◌∙◌, subst, ⊎_elim, mul_assoc, add-mul, arith}
 use Rattle.std.proofs.lemmas.Bool.{both_ways, cases_eq, cases_lt, cond-true, lt-ltb}
-use Rattle.memory.specs.Shape.{Shape, size, sector_at}
+use Rattle.memory.specs.Shape.{sector_at}
 use Rattle.memory.specs.Page.{page}
 use Rattle.memory.proofs.Blocks.{apart, below_end, get_or-block}
 use Rattle.memory.proofs.Pages.{Real, in_its_sector}

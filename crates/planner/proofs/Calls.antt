@@ -1,9 +1,9 @@
 -- The chosen plan is the plan, its cost is the least, and the call hands out what is defined.
-use Rattle.std.proofs.Common.{◌≡◌, ℕ, ◌+◌, ◌*◌, ◌<◌, ◌≤◌, Bool, true, false, cond, not, ◌&&◌, leb, ◌⊎◌, List, [], ◌∷◌, ◌++◌, length, get_or, take, drop, Some, None, Ok, Err, Option, Result, sym, refl, ap, ◌∙◌, subst, ap₂, inl, inr, zero-add, arith, length-take}
+use Rattle.std.proofs.Common.{◌≡◌, ℕ, ◌+◌, ◌*◌, ◌<◌, ◌≤◌, Bool, true, false, cond, not, ◌&&◌, leb, ◌⊎◌, List, ◌∷◌, ◌++◌, length, get_or, drop, Some, None, Ok, Err, Option, Result, sym, refl, ap, ◌∙◌, subst, inl, inr, zero-add, arith}
 use lib.Seq.{sets, sets-eq}
 use Rattle.std.proofs.lemmas.List.{append-nil, drop_all}
-use Rattle.std.proofs.lemmas.Bool.{cond-true, cases_order, le-leb, lt-leb}
-use Rattle.memory.specs.Shape.{size, Imaged}
+use Rattle.std.proofs.lemmas.Bool.{cases_order, le-leb, lt-leb}
+use Rattle.memory.specs.Shape.{size}
 use Rattle.memory.specs.Protection.{free}
 use Rattle.memory.specs.Cycle.{Cycle, sector_erase, bulk_erase}
 use Rattle.memory.proofs.Bounds.{imaged-put}
@@ -13,17 +13,16 @@ use Rattle.planner.specs.declared.chosen.Choice.{Choice}
 use Rattle.planner.specs.declared.fault.PlanFault.{PlanFault}
 use Rattle.planner.specs.declared.fault.PlanFault.TheVariants.{Outside, Busy, Protected, StepsShort, DataShort}
 use Rattle.least.specs.declared.step.Step.{Step}
-use Rattle.least.specs.Barred.{Barred, LowestIs, lowest_barred}
-use Rattle.least.specs.Cost.{spent}
+use Rattle.least.specs.Barred.{LowestIs, lowest_barred}
 use Rattle.least.specs.Fewest.{fewest}
 use Rattle.least.specs.Sectors.{over_sector, erase_cost, sectors_cost, bulk_cost, chosen_cost}
 use Rattle.least.specs.Plan.{keep_page, erased_page, least_cost, keep_cycles, presets, list_to, pages_of}
-use Rattle.least.specs.Steps.{steps_of, steps_from, data_of}
+use Rattle.least.specs.Steps.{steps_of, data_of}
 use Rattle.least.specs.Writes.{planned, refused, past_the_end, steps_short, data_short, unless_barred, unless_short, plan_write}
 use Rattle.planner.specs.Looking.{Fitting, wanted}
 use Rattle.planner.specs.Choice.{Chosen}
 use Rattle.planner.specs.Lists.{bulk_list, sector_list, sectors_list}
-use Rattle.planner.specs.Sending.{Put, Sent}
+use Rattle.planner.specs.Sending.{Sent}
 use Rattle.planner.specs.Call.{Handed, plan_call, plan_inside, plan_list, polls_due}
 use Rattle.least.proofs.Laws.{fewest_lawful}
 use Rattle.least.proofs.Price.{plan-spent}

@@ -1,16 +1,15 @@
 -- What was done, joined: waits, steps and runs as lists of cycles.
-use Rattle.std.proofs.Common.{◌≡◌, ℕ, zero, suc, ◌+◌, ◌<◌, ◌≤◌, Bool, true, false, ◌&&◌, List, [], ◌∷◌, ◌++◌, map, length, get_or, take, replicate, Ok, Err, Result, sym, refl, ap, ◌∙◌, subst, ap₂, le_refl}
+use Rattle.std.proofs.Common.{◌≡◌, ℕ, zero, suc, true, false, List, [], ◌∷◌, ◌++◌, length, get_or, take, replicate, Result, sym, refl, ap, ◌∙◌, subst, ap₂, le_refl}
 use Rattle.std.proofs.lemmas.List.{append-nil, map-append, take_all}
 use Rattle.std.proofs.lemmas.Bool.{and_from}
-use Rattle.memory.specs.Shape.{Shape}
-use Rattle.memory.specs.Cycle.{Cycle, Goes, accepts, accepted, effect, leads}
+use Rattle.memory.specs.Cycle.{Cycle, Goes}
 use Rattle.memory.proofs.Lists.{goes_join}
 use Rattle.part.specs.Meaning.{Meaning, Event, asked, carried, polled, cycles, protected_at}
 use Rattle.part.specs.declared.fault.PartFault.{PartFault}
 use Rattle.least.specs.declared.step.Step.{Step}
 use Rattle.planner.specs.declared.run_fault.RunFault.{RunFault}
 use Rattle.least.specs.Steps.{step_cycle, cycles_of}
-use Rattle.planner.specs.Waits.{Polls, waited_by}
+use Rattle.planner.specs.Waits.{Polls}
 use Rattle.planner.specs.Running.{Carries, Refuses, Sends, none, more, Ran, no_limit, still-busy, ran, refused, abandoned, sent_before, Did}
 
 pub cycles-++ : (es fs : List Event) → cycles (es ++ fs) ≡ cycles es ++ cycles fs

@@ -1,13 +1,12 @@
 -- One look at a part after another, and what the pages of a part then are.
-use Rattle.std.proofs.Common.{◌≡◌, ℕ, ◌+◌, ◌*◌, ◌<◌, ◌≤◌, Bool, true, false, cond, ltb, ◌⊎◌, List, [], ◌∷◌, ◌++◌, length, is_ok, None, Ok, Err, Result, sym, refl, ap, ◌∙◌, subst, inl, inr, ⊎_elim, add_assoc, zero-add, arith}
+use Rattle.std.proofs.Common.{◌≡◌, ℕ, ◌+◌, ◌*◌, ◌<◌, ◌≤◌, Bool, true, false, cond, List, [], ◌∷◌, ◌++◌, length, None, sym, refl, ap, ◌∙◌, subst, inl, inr, ⊎_elim, add_assoc, zero-add, arith}
 use Rattle.std.proofs.lemmas.Nat.{mul-le}
 use Rattle.std.proofs.lemmas.Bool.{and_cases, cond-true, le-leb, ltb-false}
-use Rattle.memory.specs.Shape.{size, Imaged}
-use Rattle.memory.specs.Page.{block, page}
+use Rattle.memory.specs.Shape.{size}
+use Rattle.memory.specs.Page.{page}
 use Rattle.memory.proofs.Blocks.{below_end, length-block}
-use Rattle.part.specs.declared.fault.PartFault.{PartFault}
 use Rattle.part.specs.Meaning.{Meaning, Event, Sound, asked, carried, polled, cycles, polls}
-use Rattle.part.specs.Verdict.{idle, read_verdict, told}
+use Rattle.part.specs.Verdict.{read_verdict}
 use Rattle.planner.specs.Overlay.{overlaid}
 use Rattle.planner.specs.Looking.{Fitting, Looked, LookedBy, Readable, asked_bytes, touched, wanted}
 use Rattle.planner.proofs.Overlays.{block-wanted, overlaid_off}

@@ -1,6 +1,6 @@
 -- Cycles put into a step list and a data buffer, one list after another.
-use Rattle.std.proofs.Common.{◌≡◌, ℕ, suc, ◌+◌, ◌*◌, ◌<◌, ◌≤◌, true, ◌⊎◌, List, [], ◌∷◌, ◌++◌, length, drop, set, Some, sym, refl, ap, ◌∙◌, subst, ap₂, inl, inr, add-zero, arith, length-append}
-use lib.Seq.{sets, sets-eq, length-sets}
+use Rattle.std.proofs.Common.{◌≡◌, ℕ, suc, ◌+◌, ◌*◌, ◌<◌, ◌≤◌, true, ◌⊎◌, List, [], ◌∷◌, ◌++◌, length, set, Some, sym, refl, ap, ◌∙◌, ap₂, inl, inr, add-zero, arith, length-append}
+use lib.Seq.{sets, length-sets}
 use Rattle.std.proofs.lemmas.List.{append_assoc, append-nil}
 use Rattle.std.proofs.lemmas.Bool.{false≢true}
 use Rattle.memory.specs.declared.kind.Kind.{Kind}
@@ -9,7 +9,7 @@ use Rattle.memory.specs.Cycle.{Cycle, cycle_of}
 use Rattle.least.specs.declared.step.Step.{Step}
 use Rattle.least.specs.Plan.{bytes_from, sending}
 use Rattle.least.specs.Steps.{kind_of, address_of, sent_by, steps_from, data_of}
-use Rattle.planner.specs.Sending.{Put, Sent, next, of_page}
+use Rattle.planner.specs.Sending.{Sent, of_page}
 use Rattle.least.proofs.Runs.{length-bytes_from}
 
 pub sets_append :

@@ -1,16 +1,15 @@
 -- What is found of a write: pages that it does not touch, a sector's choice, and the choice of all.
-use Rattle.std.proofs.Common.{◌≡◌, ℕ, zero, suc, ◌+◌, ◌*◌, ◌<◌, ◌≤◌, Bool, true, false, cond, not, ◌&&◌, ◌⊎◌, List, [], length, get_or, replicate, Some, None, Option, sym, refl, ap, ◌∙◌, subst, ap₂, inl, inr, zero-add, add-one, arith}
+use Rattle.std.proofs.Common.{◌≡◌, ℕ, zero, suc, ◌+◌, ◌*◌, ◌<◌, Bool, true, false, cond, not, ◌&&◌, ◌⊎◌, List, [], replicate, Some, None, sym, refl, ap, ◌∙◌, ap₂, inl, inr, zero-add, add-one, arith}
 use Rattle.std.proofs.lemmas.Bool.{and_from, and_right, cases_eq, cond-false}
-use Rattle.memory.specs.Shape.{Shape}
 use Rattle.memory.specs.Page.{page}
 use Rattle.memory.specs.Protection.{free}
-use Rattle.memory.specs.Cycle.{Cycle, program, alter}
+use Rattle.memory.specs.Cycle.{program, alter}
 use Rattle.part.specs.Meaning.{Meaning}
-use Rattle.least.specs.Cost.{lesser, sum_to}
+use Rattle.least.specs.Cost.{lesser}
 use Rattle.least.specs.Fewest.{fewest}
 use Rattle.least.specs.Window.{window}
 use Rattle.least.specs.Plan.{window_cost, lowers, sending, keep_cycles}
-use Rattle.least.specs.Sectors.{over_sector, bulk_cost}
+use Rattle.least.specs.Sectors.{bulk_cost}
 use Rattle.planner.specs.Looking.{Fitting, Readable, touched, wanted}
 use Rattle.planner.specs.Survey.{below, erased_from, kept, off_from, on_all, on_from, preset, preset_off, preset_on}
 use Rattle.least.proofs.Laws.{fewest_lawful}

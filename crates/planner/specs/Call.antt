@@ -1,5 +1,5 @@
 -- What the planning call answers.
-use Rattle.std.specs.Prelude.{◌≡◌, ℕ, ◌+◌, Bool, cond, List, [], ◌∷◌, ◌++◌, length, drop, Ok, Err, Result, nat_le}
+use Rattle.std.specs.Prelude.{◌≡◌, ℕ, ◌+◌, cond, List, [], ◌∷◌, ◌++◌, length, drop, Ok, Err, Result, nat_le}
 use Rattle.memory.specs.Row.{Row, rowed}
 use Rattle.memory.specs.Shape.{size}
 use Rattle.memory.specs.Cycle.{Cycle}

@@ -1,11 +1,11 @@
 -- What is found out of a write before it is planned.
-use Rattle.std.specs.Prelude.{◌≡◌, ℕ, ◌+◌, ◌<◌, Bool, false, cond, not, ◌&&◌, List, get_or, Some, None, Option}
+use Rattle.std.specs.Prelude.{ℕ, ◌+◌, Bool, cond, not, ◌&&◌, List, Some, None, Option}
 use Rattle.memory.specs.Protection.{free}
 use Rattle.part.specs.Meaning.{Meaning, protected_at}
 use Rattle.least.specs.Cost.{sum_to}
 use Rattle.least.specs.Fewest.{fewest}
-use Rattle.least.specs.Plan.{keep_page, erased_page, least_cost}
-use Rattle.least.specs.Sectors.{over_sector, erase_cost, sector_cost, sectors_cost, bulk_cost}
+use Rattle.least.specs.Plan.{keep_page, erased_page}
+use Rattle.least.specs.Sectors.{over_sector, erase_cost, sectors_cost, bulk_cost}
 use Rattle.planner.specs.Looking.{touched, wanted}
 
 module _ (m : Meaning) (address : ℕ) (bytes : List ℕ) where

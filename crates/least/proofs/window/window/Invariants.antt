@@ -1,4 +1,3 @@
-use Rattle.std.proofs.Common.{length}
 use Rattle.least.proofs.Scans.{Scan}
 use Rattle.least.proofs.window.window.Given as goal
 

@@ -1,4 +1,4 @@
-use Rattle.std.proofs.Common.{◌≡◌, ℕ, min, length, Some, None, sym, refl, ap, ◌∙◌, arith}
+use Rattle.std.proofs.Common.{◌≡◌, min, length, Some, None, sym, refl, arith}
 use Rattle.memory.specs.Page.{page}
 use Rattle.planner.specs.Looking.{wanted}
 use Rattle.planner.proofs.Barrings.{first_of}

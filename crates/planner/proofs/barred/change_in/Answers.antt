@@ -1,4 +1,4 @@
-use Rattle.std.proofs.Common.{◌≡◌, ℕ, ◌+◌, ◌*◌, Some, None, subst, arith}
+use Rattle.std.proofs.Common.{◌+◌, ◌*◌, Some, None, subst, arith}
 use Rattle.part.specs.Meaning.{Meaning}
 use Rattle.planner.specs.Changes.{FirstIn}
 use Rattle.planner.specs.Looking.{wanted}

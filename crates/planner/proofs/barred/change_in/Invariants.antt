@@ -1,4 +1,4 @@
-use Rattle.std.proofs.Common.{◌≡◌, ℕ, ◌+◌, ◌*◌, ◌<◌, ◌≤◌, None}
+use Rattle.std.proofs.Common.{◌+◌, ◌*◌, None}
 use Rattle.planner.specs.Looking.{LookedBy, wanted}
 use Rattle.planner.specs.Changes.{FirstIn}
 use Rattle.planner.proofs.barred.change_in.Given as goal

@@ -1,4 +1,4 @@
-use Rattle.std.proofs.Common.{◌≡◌, ℕ, ◌*◌, ◌<◌, cond}
+use Rattle.std.proofs.Common.{ℕ, ◌*◌, ◌<◌, cond}
 use Rattle.memory.specs.Protection.{free}
 use Rattle.part.specs.Meaning.{protected_at}
 use Rattle.least.specs.Barred.{Barred}

@@ -1,4 +1,4 @@
-use Rattle.std.proofs.Common.{sym, ap, ◌∙◌, arith}
+use Rattle.std.proofs.Common.{sym, arith}
 use Rattle.part.specs.Meaning.{protected_at}
 use Rattle.planner.proofs.Barrings.{protected_is}
 use Rattle.planner.proofs.Surveys.{free_more, free_not}

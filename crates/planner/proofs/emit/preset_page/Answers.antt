@@ -1,6 +1,5 @@
-use Rattle.std.proofs.Common.{◌≡◌, min, length, sym, subst, arith}
+use Rattle.std.proofs.Common.{sym, subst}
 use Rattle.std.proofs.lemmas.Bool.{leb-true}
-use lib.ListN.{length-replicate}
 use Rattle.planner.specs.Looking.{wanted}
 use Rattle.planner.specs.Sending.{Sent}
 use Rattle.planner.proofs.Emitted.{presets_are}

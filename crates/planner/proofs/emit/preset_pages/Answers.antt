@@ -1,4 +1,4 @@
-use Rattle.std.proofs.Common.{◌≡◌, ℕ, ◌+◌, List, sym, subst, arith}
+use Rattle.std.proofs.Common.{ℕ, ◌+◌, List, sym, subst, arith}
 use Rattle.memory.specs.Cycle.{Cycle}
 use Rattle.part.specs.Meaning.{Meaning}
 use Rattle.least.specs.Plan.{presets, list_to}

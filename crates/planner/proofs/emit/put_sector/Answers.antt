@@ -1,4 +1,4 @@
-use Rattle.std.proofs.Common.{◌≡◌, ℕ, ◌+◌, ◌*◌, ◌<◌, ◌≤◌, sym, subst, arith}
+use Rattle.std.proofs.Common.{arith}
 use Rattle.planner.proofs.Emitted.{sector-inside}
 use Rattle.planner.proofs.emit.put_sector.Goals as goal
 

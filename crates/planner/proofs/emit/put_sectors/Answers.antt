@@ -1,4 +1,4 @@
-use Rattle.std.proofs.Common.{◌≡◌, ℕ, ◌+◌, Bool, false, List, get_or, sym, ap, subst, arith}
+use Rattle.std.proofs.Common.{ℕ, false, List, get_or, sym, ap, subst, arith}
 use Rattle.memory.specs.Cycle.{Cycle}
 use Rattle.part.specs.Meaning.{Meaning}
 use Rattle.least.specs.Plan.{list_to}

@@ -1,4 +1,4 @@
-use Rattle.std.proofs.Common.{◌≡◌, ◌*◌, length, replicate, sym, refl, ap, ◌∙◌, arith}
+use Rattle.std.proofs.Common.{◌*◌, length, replicate, sym, ap, ◌∙◌, arith}
 use Rattle.memory.specs.Page.{page}
 use Rattle.planner.proofs.Lookings.{looked_none, length-here, page-wanted}
 use Rattle.planner.proofs.Overlays.{length-overlaid, overlaid_on}

@@ -1,4 +1,4 @@
-use Rattle.std.proofs.Common.{◌≡◌, sym, ap, ◌∙◌, add-zero, arith}
+use Rattle.std.proofs.Common.{sym, ap, ◌∙◌, add-zero, arith}
 use Rattle.planner.specs.Overlay.{overlaid}
 use Rattle.planner.proofs.Overlays.{overlaid_more, overlaid_none}
 use Rattle.planner.proofs.overlay.overlay.Goals as goal

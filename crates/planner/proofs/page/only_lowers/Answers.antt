@@ -1,5 +1,4 @@
-use Rattle.std.proofs.Common.{◌≡◌, sym, ◌∙◌, arith}
-use Rattle.std.proofs.lemmas.Bool.{cond-false}
+use Rattle.std.proofs.Common.{sym, ◌∙◌, arith}
 use Rattle.planner.proofs.Pages.{lowers_rises, lowers_more, lowers-all}
 use Rattle.planner.proofs.page.only_lowers.Goals as goal
 

@@ -1,4 +1,4 @@
-use Rattle.std.proofs.Common.{◌≡◌, ℕ, ◌+◌, List, length, take, Ok, Err, Result, sym, refl, subst, arith}
+use Rattle.std.proofs.Common.{ℕ, ◌+◌, List, length, take, Ok, Err, Result, sym, refl, subst, arith}
 use Rattle.std.proofs.lemmas.List.{take_more, take_all}
 use Rattle.std.proofs.lemmas.Bool.Decides.{nat_tests}
 use Rattle.least.specs.declared.step.Step.{Step}

@@ -1,14 +1,12 @@
-use Rattle.std.proofs.Common.{◌≡◌, ℕ, ◌≤◌, Bool, true, false, cond, List, [], ◌∷◌, is_ok, Ok, Err, Result, sym, refl, ap, ◌∙◌, subst, MatchResult}
+use Rattle.std.proofs.Common.{◌≡◌, true, false, cond, [], ◌∷◌, is_ok, Ok, Err, Result, sym, refl, ap, ◌∙◌, subst, MatchResult}
 use Rattle.memory.specs.Page.{block}
 use Rattle.memory.specs.Cycle.{cycle_of, accepts, effect}
 use Rattle.part.specs.declared.fault.PartFault.{PartFault}
-use Rattle.part.specs.Meaning.{Meaning, Event, carried, protected_at}
+use Rattle.part.specs.Meaning.{carried, protected_at}
 use Rattle.part.specs.Verdict.{told, verdict, verdict_if, clean_at}
 use Rattle.part.proofs.Accepting.{accepting}
-use Rattle.planner.specs.Running.{Carries, Refuses, step_verdict, step_verdict_if}
-use Rattle.least.specs.Steps.{step_cycle}
+use Rattle.planner.specs.Running.{Carries, Refuses}
 use Rattle.planner.proofs.Sendable.{same_cycle, same_verdict, step-verdict, told-refused, told-done}
-use Rattle.planner.proofs.send.send.Given as given
 use Rattle.planner.proofs.send.send.Goals as goal
 
 pub returns : goal.returns

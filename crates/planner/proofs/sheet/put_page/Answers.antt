@@ -1,4 +1,4 @@
-use Rattle.std.proofs.Common.{◌≡◌, ℕ, ◌+◌, ◌*◌, ◌<◌, ◌≤◌, ◌⊎◌, List, length, set, Some, Option, sym, subst, inl, inr, arith}
+use Rattle.std.proofs.Common.{ℕ, ◌+◌, ◌*◌, ◌<◌, ◌≤◌, ◌⊎◌, List, length, set, Some, Option, sym, subst, inl, inr, arith}
 use Rattle.memory.specs.Cycle.{cycle_of}
 use Rattle.least.specs.Plan.{sending}
 use Rattle.planner.specs.Sending.{Sent}

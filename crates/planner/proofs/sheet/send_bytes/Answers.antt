@@ -1,4 +1,4 @@
-use Rattle.std.proofs.Common.{◌≡◌, ℕ, ◌+◌, ◌-◌, ◌%◌, get_or, sym, ap, ◌∙◌, arith}
+use Rattle.std.proofs.Common.{◌≡◌, ◌+◌, ◌-◌, ◌%◌, get_or, sym, ap, ◌∙◌, arith}
 use Rattle.planner.proofs.Pages.{sets_more, sets_none}
 use Rattle.planner.proofs.sheet.send_bytes.Goals as goal
 

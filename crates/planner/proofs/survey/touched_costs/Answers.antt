@@ -1,4 +1,4 @@
-use Rattle.std.proofs.Common.{◌≡◌, ℕ, ◌+◌, sym, refl, ap, ◌∙◌, ap₂, arith}
+use Rattle.std.proofs.Common.{◌+◌, sym, refl, ap, ◌∙◌, ap₂, arith}
 use Rattle.least.specs.Fewest.{fewest}
 use Rattle.planner.specs.Survey.{kept, preset_on}
 use Rattle.planner.proofs.Askings.{on_more, same_most}

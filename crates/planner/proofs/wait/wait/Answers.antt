@@ -1,9 +1,8 @@
-use Rattle.std.proofs.Common.{◌≡◌, ℕ, ◌+◌, ◌-◌, ◌<◌, ◌≤◌, min, sym, refl, ap, ◌∙◌, subst, arith}
+use Rattle.std.proofs.Common.{◌≡◌, ℕ, ◌+◌, ◌-◌, min, sym, ap, ◌∙◌, subst, arith}
 use Rattle.std.proofs.lemmas.Bool.{le-leb, lt-leb, eqb-true, eqb-false}
 use Rattle.std.proofs.lemmas.Bool.Decides.{nat_tests}
-use Rattle.part.specs.Meaning.{Meaning}
 use Rattle.planner.specs.Waits.{Polls}
-use Rattle.planner.proofs.Waiting.{polls_none, polls_more, waited_more}
+use Rattle.planner.proofs.Waiting.{polls_none, polls_more}
 use Rattle.planner.proofs.wait.wait.Given as given
 use Rattle.planner.proofs.wait.wait.Goals as goal
 
