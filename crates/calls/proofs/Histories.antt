@@ -1,5 +1,5 @@
 -- One more call.
-use Rattle.std.proofs.Common.{◌≡◌, ℕ, List, [], ◌∷◌, ◌++◌, Some, sym, refl, ap, ◌∙◌, subst}
+use Rattle.std.proofs.Common.{◌≡◌, ℕ, List, [], ◌∷◌, ◌++◌, sym, refl, subst}
 use Rattle.part.specs.Meaning.{Meaning, Event}
 use Rattle.fence.specs.declared.fence.Fence.{Fence}
 use Rattle.fence.specs.Fenced.{fresh}

@@ -1,5 +1,5 @@
 -- What a call owes, and small facts of references.
-use Rattle.std.proofs.Common.{◌≡◌, ℕ, List, [], Some, None, Option, sym, refl, ap, ◌∙◌, subst}
+use Rattle.std.proofs.Common.{◌≡◌, ℕ, List, Some, None, Option, ap, ◌∙◌, subst}
 use Rattle.memory.specs.Page.{put}
 use Rattle.part.specs.Meaning.{Meaning, Event}
 use Rattle.fence.specs.declared.fence.Fence.{Fence}
@@ -7,8 +7,7 @@ use Rattle.calls.specs.declared.call.Answer.{Answer}
 use Rattle.calls.specs.declared.call.Entry.{Entry}
 use Rattle.calls.specs.Requests.{Request, asks, buffer, outcome}
 use Rattle.calls.specs.Reference.{Reference, Holds, fed, rewritten}
-use Rattle.calls.specs.Causes.{Unaltered}
-use Rattle.calls.specs.Law.{Law, meant, Traced}
+use Rattle.calls.specs.Law.{Law}
 use Rattle.calls.specs.History.{Agrees, Follows}
 
 -- what holds of one image holds of the reference's, where that is the one

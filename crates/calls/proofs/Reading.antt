@@ -1,5 +1,5 @@
 -- A read through a fence keeps the law.
-use Rattle.std.proofs.Common.{◌≡◌, ℕ, ◌+◌, ◌<◌, ◌≤◌, Bool, true, false, cond, eqb, leb, ◌⊎◌, List, [], ◌∷◌, length, is_ok, Some, None, Ok, Err, Option, Result, sym, refl, ap, ◌∙◌, inl, inr, arith}
+use Rattle.std.proofs.Common.{◌≡◌, ℕ, ◌+◌, Bool, true, false, cond, leb, List, [], ◌∷◌, is_ok, None, Ok, Err, Result, refl, ap, ◌∙◌, inl, inr, arith}
 use Rattle.std.proofs.lemmas.Bool.{leb-true, leb-false, eqb-false}
 use Rattle.memory.specs.Shape.{size}
 use Rattle.memory.specs.Page.{block}
@@ -9,13 +9,10 @@ use Rattle.part.specs.Meaning.{Meaning, Event, asked}
 use Rattle.part.specs.Verdict.{check, idle, read_verdict, told}
 use Rattle.fence.specs.declared.fence.Fence.{Fence}
 use Rattle.calls.specs.declared.call.Refusal.TheVariants.{Part}
-use Rattle.calls.specs.declared.call.Answer.{Answer}
 use Rattle.calls.specs.Refusals.{part_answer}
-use Rattle.calls.specs.Requests.{Request, reading, outcome, refused}
-use Rattle.calls.specs.Reference.{Reference}
+use Rattle.calls.specs.Requests.{reading, outcome, refused}
 use Rattle.calls.specs.Causes.{Cause}
-use Rattle.calls.specs.Law.{Law, meant, Traced}
-use Rattle.calls.specs.History.{Agrees}
+use Rattle.calls.specs.Law.{meant, Traced}
 use Rattle.calls.proofs.Owing.{Owed, holds_by, holds_moved}
 
 -- the cause of a refused read

@@ -1,10 +1,9 @@
 -- A write through a fence keeps the law.
-use Rattle.std.proofs.Common.{◌≡◌, ℕ, ◌+◌, ◌<◌, ◌≤◌, min, Bool, true, false, List, [], ◌∷◌, ◌++◌, map, length, take, Ok, Err, Result, sym, refl, ap, ◌∙◌, subst, ap₂, arith, length-append, length-take}
+use Rattle.std.proofs.Common.{◌≡◌, ℕ, ◌+◌, ◌<◌, List, [], ◌∷◌, ◌++◌, length, take, Err, Result, sym, refl, ap, ◌∙◌, subst, arith, length-append, length-take}
 use Rattle.std.proofs.lemmas.List.{length-map}
 use Rattle.std.proofs.lemmas.Bool.{both_ways}
 use Rattle.memory.specs.Cycle.{Cycle, Goes}
-use Rattle.memory.specs.Page.{put}
-use Rattle.part.specs.Meaning.{Meaning, Event, Sound, cycles, protected_at}
+use Rattle.part.specs.Meaning.{Meaning, Event, cycles, protected_at}
 use Rattle.fence.specs.declared.fence.Fence.{Fence}
 use Rattle.least.specs.declared.step.Step.{Step}
 use Rattle.least.specs.Cost.{spent}
@@ -13,23 +12,21 @@ use Rattle.least.specs.Steps.{cycles_of, step_cycle}
 use Rattle.least.specs.Writes as writes
 use Rattle.least.specs.Theorems as theorems
 use Rattle.least.specs.Theorems.{Says, LeastBy}
-use Rattle.planner.specs.Waits.{Polls, waited_by}
-use Rattle.planner.specs.Running.{Carries, Did, allowed}
+use Rattle.planner.specs.Waits.{Polls}
+use Rattle.planner.specs.Running.{Carries, Did}
 use Rattle.planner.proofs.Doings.{did_polls, did_step, did_join}
 use Rattle.writing.proofs.Carrying.{did_over}
 use Rattle.writing.specs.declared.fault.WriteFault.{WriteFault}
-use Rattle.writing.specs.declared.fault.WriteFault.TheVariants.{Limit, Outside, StillBusy, Protected, StepsShort, DataShort, Abandoned, Refused}
+use Rattle.writing.specs.declared.fault.WriteFault.TheVariants.{Limit, Outside, StillBusy, Protected, StepsShort, DataShort}
 use Rattle.writing.specs.WriteRows.{row}
 use Rattle.writing.specs.Wrote.{Buffers, plan_over, Carried, unplanned, written, abandoned, Wrote, no_limit, outside, still-busy, waited}
 use Rattle.calls.specs.declared.call.Refusal.TheVariants.{Write}
 use Rattle.calls.specs.declared.call.Answer.{Answer}
 use Rattle.calls.specs.declared.call.Answer.TheVariants as answers
 use Rattle.calls.specs.Refusals.{write_answer}
-use Rattle.calls.specs.Requests.{Request, writing}
-use Rattle.calls.specs.Reference.{Reference}
+use Rattle.calls.specs.Requests.{writing}
 use Rattle.calls.specs.Causes.{Passes, Unaltered, WriteCause, wanted}
 use Rattle.calls.specs.Law.{ProtectedLaw, meant, Traced}
-use Rattle.calls.specs.History.{Agrees}
 use Rattle.calls.proofs.Owing.{Owed, holds_moved, holds_put}
 use Rattle.calls.proofs.Rows.{protected-row, steps-row, data_row}
 

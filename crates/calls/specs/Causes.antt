@@ -1,9 +1,8 @@
 -- What has to hold of a part for a call to be refused, and for a write to be done or abandoned.
-use Rattle.std.specs.Prelude.{◌≡◌, ℕ, ◌+◌, ◌<◌, ◌≤◌, Bool, true, false, ◌⊎◌, List, [], ◌∷◌, ◌++◌, length, replicate, Some}
+use Rattle.std.specs.Prelude.{◌≡◌, ℕ, ◌+◌, ◌<◌, ◌≤◌, true, false, ◌⊎◌, List, [], ◌∷◌, ◌++◌, length, replicate, Some}
 use Rattle.memory.specs.Shape.{size}
 use Rattle.memory.specs.Page.{put}
-use Rattle.memory.specs.Cycle.{Cycle, Goes, leads}
-use Rattle.part.specs.declared.fault.PartFault.{PartFault}
+use Rattle.memory.specs.Cycle.{Cycle, Goes}
 use Rattle.part.specs.declared.fault.PartFault.TheVariants as parts
 use Rattle.part.specs.Meaning.{Meaning, Event, carried, polled, cycles, protected_at}
 use Rattle.least.specs.Barred.{LowestIs}

@@ -1,6 +1,5 @@
 -- THE LAW of one call to a fence, in four sentences, and that a refused call alters nothing.
-use Rattle.std.specs.Prelude.{◌≡◌, ℕ, Bool, List, length}
-use Rattle.memory.specs.Row.{Row}
+use Rattle.std.specs.Prelude.{◌≡◌, ℕ, List, length}
 use Rattle.memory.specs.Page.{block}
 use Rattle.part.specs.Meaning.{Meaning, Event}
 use Rattle.fence.specs.declared.fence.Fence.{Fence}

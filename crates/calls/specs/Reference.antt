@@ -1,5 +1,5 @@
 -- The reference: what someone expects who sees only the calls, and which of them were done, refused or abandoned.
-use Rattle.std.specs.Prelude.{◌≡◌, ℕ, Bool, true, false, List, Some, None, Option, slice_set}
+use Rattle.std.specs.Prelude.{ℕ, Bool, true, false, List, Some, None, Option, slice_set}
 use Rattle.memory.specs.Page.{put}
 use Rattle.calls.specs.Requests.{Request, closing, opening, reading, writing, Outcome, done, refused, abandoned}
 

@@ -1,5 +1,5 @@
 -- The rows of the refusals of calls, and how a call's result becomes its answer.
-use Rattle.std.specs.Prelude.{◌≡◌, ℕ, Ok, Err, Result}
+use Rattle.std.specs.Prelude.{ℕ, Ok, Err, Result}
 use Rattle.memory.specs.Row.{Row}
 use Rattle.part.specs.declared.fault.PartFault.{PartFault}
 use Rattle.part.specs.Rows as of_part

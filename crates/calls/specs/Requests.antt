@@ -1,5 +1,5 @@
 -- What a call asks, and a record of calls beside the calls that were handed in.
-use Rattle.std.specs.Prelude.{◌≡◌, ℕ, Bool, true, false, List, [], ◌∷◌, vec_items, vec_len}
+use Rattle.std.specs.Prelude.{◌≡◌, ℕ, List, [], ◌∷◌, vec_items, vec_len}
 use Rattle.calls.specs.declared.call.Call.{Call}
 use Rattle.calls.specs.declared.call.Call.TheVariants.{Close, Open, Read, Write}
 use Rattle.calls.specs.declared.call.Answer.{Answer}

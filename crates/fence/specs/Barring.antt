@@ -1,16 +1,15 @@
 -- Cycles that closed sectors bar, and those that they let pass.
-use Rattle.std.specs.Prelude.{◌≡◌, ℕ, ◌+◌, ◌*◌, ◌/◌, ◌<◌, ◌≤◌, Bool, true, false, cond, not, ◌&&◌, ◌||◌, List, length, Some, None, Ok, Err, Option, Result, nat_le, nat_lt, refl}
-use Rattle.std.proofs.Common.{sym, ap, ap₂, ◌∙◌, arith, div-lt_iff_lt-mul}
+use Rattle.std.specs.Prelude.{◌≡◌, ℕ, ◌<◌, Bool, true, false, cond, not, ◌&&◌, ◌||◌, List, length, Some, None, Ok, Err, Result, nat_le, nat_lt, refl}
+use Rattle.std.proofs.Common.{sym, ap, ◌∙◌, arith, div-lt_iff_lt-mul}
 use Rattle.std.proofs.lemmas.Bool.{cond-true, cond-false, ltb-true, not-true, not-false, not_from_true}
 use Rattle.memory.specs.declared.kind.Kind.{Kind}
 use Rattle.memory.specs.declared.kind.Kind.TheVariants.{Program, Alter, Preset, SectorErase, BulkErase}
 use Rattle.memory.specs.Shape.{Shape, shaped, size, sector_at}
-use Rattle.memory.specs.Protection.{free}
 use Rattle.part.specs.declared.fault.PartFault.{PartFault}
 use Rattle.part.specs.declared.fault.PartFault.TheVariants.{Outside, NoSector, PageData, Busy, Protected, NotBlank}
 use Rattle.part.specs.Meaning.{Meaning, Sound, protected_at}
-use Rattle.part.specs.Verdict.{check, inside, fills, permits, presets, barred, idle, refusal, verdict_if, protection}
-use Rattle.fence.specs.Closed.{either, fenced, is_closed, bars, barred_by}
+use Rattle.part.specs.Verdict.{check, inside, fills, permits, presets, barred, idle, verdict_if, protection}
+use Rattle.fence.specs.Closed.{fenced, is_closed, bars, barred_by}
 use Rattle.fence.specs.Marks.{length-either, either_at, either-closed, either_open, free_open, free-closed}
 
 -- every page has 64 bytes

@@ -1,5 +1,5 @@
 -- Refusals by an outline and by the meaning that it outlines, and what a cycle that is not refused has passed.
-use Rattle.std.proofs.Common.{◌≡◌, ℕ, ◌+◌, ◌≤◌, Bool, true, false, cond, not, leb, List, length, get_or, is_some, is_ok, Some, None, Option, Result, sym, refl, ap, ◌∙◌, ap₂, arith}
+use Rattle.std.proofs.Common.{◌≡◌, ℕ, ◌+◌, ◌≤◌, Bool, true, false, not, leb, List, length, get_or, is_some, Some, None, Option, sym, refl, ap, ◌∙◌, ap₂, arith}
 use Rattle.std.proofs.lemmas.Bool.{eqb-true, leb-true, cond-true, cond-false}
 use Rattle.memory.specs.declared.kind.Kind.{Kind}
 use Rattle.memory.specs.declared.kind.Kind.TheVariants.{Program, Alter, Preset, SectorErase, BulkErase}
@@ -10,8 +10,8 @@ use Rattle.part.specs.declared.fault.PartFault.{PartFault}
 use Rattle.part.specs.declared.fault.PartFault.TheVariants.{Outside, PageData, Busy, Protected, NotBlank}
 use Rattle.part.specs.declared.outline.Outline.{Outline}
 use Rattle.part.specs.Meaning.{Meaning, protected_at}
-use Rattle.part.specs.Outline.{Outlines, outlined, guards, guarding}
-use Rattle.part.specs.Verdict.{check, refusal, read_refusal, inside, fills, permits, barred, presets, idle, clean_at, verdict, verdict_if, read_verdict, told}
+use Rattle.part.specs.Outline.{Outlines, outlined, guarding}
+use Rattle.part.specs.Verdict.{check, refusal, read_refusal, inside, fills, permits, barred, presets, idle, clean_at, verdict, read_verdict}
 use Rattle.part.proofs.Accepting.{accepting, presets_clean}
 
 -- four checks and a last one

@@ -1,7 +1,7 @@
 -- What a part means, and what can be done to it.
 use Rattle.std.specs.Prelude.{◌≡◌, ℕ, suc, ◌-◌, ◌≤◌, Bool, false, List, [], ◌∷◌, length, slice_index_or}
 use Rattle.memory.specs.Shape.{Shape, Imaged}
-use Rattle.memory.specs.Cycle.{Cycle, effect}
+use Rattle.memory.specs.Cycle.{Cycle}
 
 pub record Meaning : Type 0 where
   -- sectors, pages a sector, bytes a page

@@ -1,5 +1,5 @@
 -- The plain image as a part, and its making.
-use Rattle.std.specs.Prelude.{◌≡◌, ℕ, ◌%◌, Bool, true, cond, List, [], ◌∷◌, Some, None, Option, ◌==◌, nat_le}
+use Rattle.std.specs.Prelude.{◌≡◌, ℕ, ◌%◌, true, cond, List, [], ◌∷◌, Some, None, Option, ◌==◌, nat_le}
 use Rattle.memory.specs.declared.image.ImageFault.{ImageFault}
 use Rattle.memory.specs.declared.image.ImageFault.TheVariants as of_image
 use Rattle.memory.specs.Shape.{shaped}

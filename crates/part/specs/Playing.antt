@@ -1,8 +1,8 @@
 -- Runs of events on a plain image.
-use Rattle.std.specs.Prelude.{◌≡◌, ℕ, true, List, [], ◌∷◌, ◌++◌}
+use Rattle.std.specs.Prelude.{◌≡◌, true, List, [], ◌∷◌, ◌++◌}
 use Rattle.std.proofs.Common.{sym, subst}
 use Rattle.memory.specs.Cycle.{Cycle, accepts}
-use Rattle.part.specs.Meaning.{Meaning, Event, asked, carried, polled, protected_at, waited}
+use Rattle.part.specs.Meaning.{Meaning, Event, carried, polled, protected_at, waited}
 use Rattle.part.specs.Plain.{Played, none, read, cycle, poll, done}
 
 pub played-++ : {a b c : Meaning} {l m : List Event} → Played a l b → Played b m c → Played a (l ++ m) c

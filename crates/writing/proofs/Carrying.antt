@@ -1,7 +1,6 @@
 -- A write to a part with nothing due, from what planning and running promise.
-use Rattle.std.proofs.Common.{◌≡◌, ℕ, ◌+◌, ◌-◌, ◌<◌, ◌≤◌, Bool, true, false, cond, List, [], ◌∷◌, ◌++◌, length, get_or, take, drop, Ok, Err, Result, sym, refl, ap, ◌∙◌, subst, ap₂, arith, take_at}
+use Rattle.std.proofs.Common.{◌≡◌, ℕ, ◌-◌, ◌<◌, true, List, [], ◌++◌, length, get_or, take, Ok, Err, Result, sym, refl, ap, ◌∙◌, subst, arith, take_at}
 use Rattle.std.proofs.lemmas.Bool.{both_ways}
-use Rattle.memory.specs.Row.{Row}
 use Rattle.memory.specs.Page.{put}
 use Rattle.memory.specs.Cycle.{Cycle}
 use Rattle.part.specs.Meaning as of_part
@@ -9,7 +8,7 @@ use Rattle.part.specs.Meaning.{Meaning, Event, Sound}
 use Rattle.part.specs.Verdict.{idle}
 use Rattle.least.specs.declared.step.Step.{Step}
 use Rattle.least.specs.Steps.{cycles_of}
-use Rattle.least.specs.Writes.{Answer, refused, planned, plan_write}
+use Rattle.least.specs.Writes.{Answer, refused, planned}
 use Rattle.least.specs.Theorems.{Says, LeastBy, written}
 use Rattle.least.proofs.Answered.{writes_answered}
 use Rattle.planner.specs.declared.fault.PlanFault.{PlanFault}

@@ -1,5 +1,5 @@
 -- No step of a plan is refused: its data lie in the buffer, and the part accepts its cycle.
-use Rattle.std.proofs.Common.{◌≡◌, ℕ, zero, suc, ◌+◌, ◌<◌, ◌≤◌, Bool, true, false, cond, not, ◌&&◌, leb, List, [], ◌∷◌, ◌++◌, map, length, get_or, take, drop, is_some, Some, None, Option, sym, refl, ap, ◌∙◌, subst, ap₂, append_assoc, add-one, arith, length-append, take-append-drop}
+use Rattle.std.proofs.Common.{◌≡◌, ℕ, zero, suc, ◌+◌, ◌<◌, ◌≤◌, Bool, true, false, cond, not, leb, List, [], ◌∷◌, ◌++◌, length, get_or, take, drop, is_some, Some, None, Option, sym, refl, ap, ◌∙◌, subst, ap₂, append_assoc, add-one, arith, length-append, take-append-drop}
 use Rattle.std.proofs.lemmas.List.{map-append}
 use Rattle.std.proofs.lemmas.Bool.{and_parts, le-leb}
 use Rattle.memory.specs.declared.kind.Kind.{Kind}
@@ -8,15 +8,15 @@ use Rattle.memory.specs.Shape.{Shape, size}
 use Rattle.memory.specs.Page.{block, put}
 use Rattle.memory.specs.Cycle.{Cycle, Goes, accepts, accepted, effect, leads}
 use Rattle.part.specs.declared.fault.PartFault.{PartFault}
-use Rattle.part.specs.Meaning.{Meaning, Event, protected_at}
-use Rattle.part.specs.Verdict.{verdict, clean_at}
+use Rattle.part.specs.Meaning.{Meaning, protected_at}
+use Rattle.part.specs.Verdict.{clean_at}
 use Rattle.part.proofs.Accepting.{accepting}
 use Rattle.least.specs.declared.step.Step.{Step}
 use Rattle.least.specs.Barred.{lowest_barred}
 use Rattle.least.specs.Fewest.{fewest}
 use Rattle.least.specs.Plan.{least_cost, plan}
 use Rattle.least.specs.Steps.{step_cycle, cycles_of, steps_from, steps_of, data_of, sent_by}
-use Rattle.least.specs.Writes.{Answer, refused, planned, past_the_end, protected_at as barredAt, steps_short, data_short, unless_barred, unless_short, plan_to, plan_write}
+use Rattle.least.specs.Writes.{refused, planned, past_the_end, steps_short, data_short, unless_barred, unless_short, plan_to, plan_write}
 use Rattle.planner.specs.Running.{held, lies, step_verdict}
 use Rattle.planner.proofs.Sendable.{step-verdict}
 

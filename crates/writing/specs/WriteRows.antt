@@ -1,5 +1,5 @@
 -- The rows of a write's refusals, and how the refusals of planning and running become those of a write.
-use Rattle.std.specs.Prelude.{ℕ, [], ◌∷◌}
+use Rattle.std.specs.Prelude.{[], ◌∷◌}
 use Rattle.memory.specs.Row.{Row, rowed}
 use Rattle.part.specs.Rows as of_part
 use Rattle.least.specs.Writes.{past_the_end, protected_at, steps_short, data_short}

@@ -3,12 +3,11 @@ use Rattle.std.proofs.lemmas.List.{with_items_is}
 use Rattle.fence.specs.declared.fence.Fence.{Fence}
 use Rattle.writing.specs.Wrote.{Wrote, buffers}
 use Rattle.calls.specs.Refusals.{part_answer, write_answer}
-use Rattle.calls.specs.Requests.{asks, buffer, outcome, refused, reading, writing}
+use Rattle.calls.specs.Requests.{asks, buffer, outcome, reading}
 use Rattle.calls.specs.Law.{meant, Traced}
 use Rattle.calls.proofs.Owing.{owed_follows, owed_by}
 use Rattle.calls.proofs.Reading.{read_owed, refused-part}
 use Rattle.calls.proofs.Writing.{write_owed, write_keeps}
-use Rattle.calls.proofs.make.make.Given as given
 use Rattle.calls.proofs.make.make.Goals as goal
 
 pub returns-in-Read : goal.returns-in-Read

@@ -1,6 +1,5 @@
-use Rattle.std.proofs.Common.{◌≡◌, ◌+◌, ◌≤◌, length, vec_items, vec_len, vec_capacity}
+use Rattle.std.proofs.Common.{◌+◌, ◌≤◌, length, vec_items, vec_len, vec_capacity}
 use Rattle.std.specs.Vec.Iter.{into_iter_items, into_iter_len}
-use Rattle.fence.specs.Fenced.{fresh}
 use Rattle.calls.specs.Requests.{Records}
 use Rattle.calls.proofs.Histories.{SoFar}
 use Rattle.calls.proofs.perform.perform.Given as goal

@@ -4,7 +4,7 @@ use Rattle.std.proofs.lemmas.Slice.{pushed}
 use Rattle.port.specs.declared.fault.PortFault.{PortFault}
 use Rattle.port.specs.Bench.{chip_of}
 use Rattle.port.specs.Machine.{after, answer, frame}
-use Rattle.replay.specs.Shown.{shown, too_long, line_of}
+use Rattle.replay.specs.Shown.{shown, too_long}
 use Rattle.replay.proofs.play.play_frame.Goals as goal
 use Rattle.replay.proofs.play.play_frame.Goals.{in-Ok+in_ok-show-in-Ok, in-Err+in_ok-extend_from_slice-in-Err}
 

@@ -1,13 +1,8 @@
-use Rattle.std.proofs.Common.{◌≡◌, ℕ, ◌-◌, ◌≤◌, true, List, length, take, Ok, Err, Result, sym, ap, ◌∙◌, subst, arith, take_at}
+use Rattle.std.proofs.Common.{◌-◌, Ok, Err, sym, subst, arith}
 use Rattle.std.proofs.lemmas.Bool.{eq-eqb}
-use Rattle.part.specs.Verdict.{idle}
-use Rattle.least.specs.declared.step.Step.{Step}
-use Rattle.planner.specs.declared.run_fault.RunFault.{RunFault}
-use Rattle.planner.specs.Running.{Ran}
 use Rattle.writing.specs.declared.fault.WriteFault.{WriteFault}
 use Rattle.writing.specs.Wrote.{Carried, buffers}
 use Rattle.writing.proofs.Carrying.{carried-unplanned, handed_plan, carried_cut}
-use Rattle.writing.proofs.write.carry_out.Given as given
 use Rattle.writing.proofs.write.carry_out.Goals as goal
 
 pub returns-in-Err : goal.returns-in-Err

@@ -1,7 +1,7 @@
-use Rattle.std.proofs.Common.{◌≡◌, true, false, not, sym, ap, ◌∙◌}
+use Rattle.std.proofs.Common.{sym, ap, ◌∙◌}
 use Rattle.std.proofs.lemmas.Bool.{not-true, not-false}
 use Rattle.part.specs.declared.fault.PartFault.TheVariants.{Protected}
-use Rattle.part.specs.Verdict.{fills, idle}
+use Rattle.part.specs.Verdict.{idle}
 use Rattle.fence.specs.Barring.{fills-page, barred-busy, barred_last}
 use Rattle.fence.proofs.fence.Fence.refusal.Goals as goal
 

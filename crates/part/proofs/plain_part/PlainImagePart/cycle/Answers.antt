@@ -1,12 +1,12 @@
-use Rattle.std.proofs.Common.{◌≡◌, ℕ, true, false, List, length, Some, None, vec_items, sym, refl, ap, ◌∙◌, ap₂, arith, lit≤}
+use Rattle.std.proofs.Common.{◌≡◌, ℕ, true, false, List, length, vec_items, sym, refl, ap, ◌∙◌, lit≤}
 use Rattle.std.proofs.lemmas.Bool.{true≢false, false≢true, eqb-true}
 use Rattle.memory.specs.Shape.{Shape, size}
-use Rattle.memory.specs.Cycle.{cycle_of, effect}
+use Rattle.memory.specs.Cycle.{cycle_of}
 use Rattle.memory.specs.Image.{bytes_of, shape_of}
 use Rattle.part.specs.Meaning.{Meaning, protected_at}
 use Rattle.part.specs.Outline.{guards}
-use Rattle.part.specs.Plain.{plainly, none, done}
-use Rattle.part.specs.Verdict.{told, idle, refusal, clean_at}
+use Rattle.part.specs.Plain.{plainly, none}
+use Rattle.part.specs.Verdict.{told, idle, clean_at}
 use Rattle.part.specs.Playing.{played_cycle}
 use Rattle.part.proofs.Refusals.{outlines_cycle, refused_early, soiled, done_all, all_passed, preset_only, accepted, carried_in}
 use Rattle.part.proofs.plain_part.PlainImagePart.cycle.Goals as goal

@@ -1,5 +1,5 @@
-use Rattle.std.proofs.Common.{◌≡◌, ℕ, ◌-◌, Bool, true, false, cond, refl, ap}
-use Rattle.part.specs.Meaning.{Meaning, waited}
+use Rattle.std.proofs.Common.{◌≡◌, ◌-◌, Bool, true, false, cond, refl, ap}
+use Rattle.part.specs.Meaning.{waited}
 use Rattle.part.specs.Plain.{plainly}
 use Rattle.part.specs.Playing.{played_poll}
 use Rattle.part.proofs.plain_part.PlainImagePart.poll.Goals as goal
