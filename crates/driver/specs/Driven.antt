@@ -1,5 +1,5 @@
 -- Runs of frames, and what each call's frames do.
-use Rattle.std.specs.Prelude.{◌≡◌, ℕ, suc, ◌+◌, ◌-◌, ◌*◌, ◌/◌, ◌<◌, ◌≤◌, Bool, true, false, cond, not, ◌&&◌, List, [], ◌∷◌, ◌++◌, length, ◌==◌, refl}
+use Rattle.std.specs.Prelude.{◌≡◌, ℕ, ◌+◌, ◌-◌, ◌*◌, ◌/◌, ◌≤◌, Bool, true, false, cond, not, ◌&&◌, List, [], ◌∷◌, ◌++◌, length, ◌==◌, refl}
 use Rattle.std.proofs.Common.{sym, ap, ap₂, subst, ◌∙◌, arith}
 use Rattle.std.proofs.lemmas.List.{append_assoc}
 use Rattle.std.proofs.lemmas.Bool.{true≢false, eqb-true, not-false, ltb-true}
@@ -21,7 +21,7 @@ use Rattle.part.specs.Outline.{outlined, guards, guarding}
 use Rattle.part.specs.Verdict.{inside, fills, permits, presets, idle}
 use Rattle.part.proofs.Refusals.{reaches_in}
 use Rattle.driver.specs.Frames.{Sendable, status_frame, enable_frame, cycle_frame, looks}
-use Rattle.driver.specs.Carries.{Carries, Harmless, none, step, status_reads, asks_status, carried_out}
+use Rattle.driver.specs.Carries.{Carries, Harmless, none, step, status_reads, carried_out}
 use Rattle.driver.specs.Driving.{Drives, Intact, Quiet, seen, fitted}
 use Rattle.driver.specs.Hearing.{one-status, status-heard, after-status}
 use Rattle.driver.specs.Seeing.{seen_outline, seen-image, chip_long}

@@ -1,5 +1,5 @@
 -- What a driver means: the chip behind its port, seen through what it remembers of it.
-use Rattle.std.specs.Prelude.{◌≡◌, ℕ, ◌+◌, ◌-◌, Bool, true, false, cond, List, [], ◌∷◌, ◌++◌, length, take, replicate}
+use Rattle.std.specs.Prelude.{◌≡◌, ℕ, ◌+◌, ◌-◌, false, cond, List, [], ◌∷◌, ◌++◌, take, replicate}
 use Rattle.memory.specs.Shape.{size}
 use Rattle.port.specs.Chip.{Chip, shape}
 use Rattle.port.specs.Machine.{Frame}

@@ -1,17 +1,16 @@
 -- What the chip hears of each frame that a driver sends, and what comes of it.
-use Rattle.std.specs.Prelude.{◌≡◌, ℕ, zero, suc, ◌+◌, ◌-◌, ◌%◌, ◌<◌, ◌≤◌, Bool, true, false, cond, not, ◌&&◌, List, [], ◌∷◌, ◌++◌, length, ◌==◌, bit_and, nat_lt, refl}
-use Rattle.std.proofs.Common.{sym, ap, ◌∙◌, ⊎_elim, arith, lit<}
+use Rattle.std.specs.Prelude.{◌≡◌, ℕ, ◌+◌, ◌-◌, ◌%◌, ◌<◌, Bool, true, false, cond, List, [], ◌∷◌, length, ◌==◌, bit_and, nat_lt, refl}
+use Rattle.std.proofs.Common.{ap, ◌∙◌, arith}
 use Rattle.std.proofs.lemmas.Nat.{and_mask, and_mod, and_le_r}
 use Rattle.std.proofs.lemmas.Bool.{cond-true, cond-false, eq-eqb, lt-ltb, cases_Bool, eqb-true, eqb-false, ne_eqb}
 use Rattle.std.proofs.lemmas.Bool.Decides.{nat_tests}
-use Rattle.memory.specs.Cycle.{Cycle}
-use Rattle.memory.specs.Image.{rolled, reaches}
+use Rattle.memory.specs.Image.{rolled}
 use Rattle.port.specs.declared.instruction.Operation.{Operation}
-use Rattle.port.specs.declared.instruction.Operation.TheVariants.{WriteEnable, ReadStatus, Identify, Read, Program, Alter, Preset, SectorErase, BulkErase}
+use Rattle.port.specs.declared.instruction.Operation.TheVariants.{ReadStatus, Identify, Read}
 use Rattle.port.specs.Instructions.{table, allows}
 use Rattle.port.specs.Build.{built, listed}
 use Rattle.port.specs.Chip.{Chip}
-use Rattle.port.specs.Machine.{Ask, enable, status, identify, read, cycle, unknown, meant, heard, hears, ordered, frame, act, after, reply, answer, shown, waited, identity}
+use Rattle.port.specs.Machine.{Ask, status, identify, read, unknown, meant, heard, hears, ordered, frame, act, after, reply, answer, shown, waited, identity}
 use Rattle.port.proofs.Building.{understood}
 use Rattle.driver.specs.Frames.{status_frame, identify_frame, read_frame}
 use Rattle.driver.specs.Carries.{carried_out, asks_status}

@@ -1,9 +1,9 @@
 -- The chip as a driver sees it.
-use Rattle.std.specs.Prelude.{◌≡◌, ℕ, ◌+◌, ◌-◌, ◌*◌, ◌<◌, ◌≤◌, min, Bool, true, false, cond, not, List, ◌++◌, length, take, replicate, ◌==◌, slice_index, refl}
-use Rattle.std.proofs.Common.{sym, ap, ap₂, subst, ◌∙◌, ⊎_elim, arith, length-take, length-append}
+use Rattle.std.specs.Prelude.{◌≡◌, ℕ, ◌+◌, ◌-◌, ◌<◌, Bool, true, false, cond, not, List, ◌++◌, length, take, replicate, ◌==◌, slice_index, refl}
+use Rattle.std.proofs.Common.{sym, ap, ◌∙◌, ⊎_elim, arith, length-append}
 use Rattle.std.proofs.lemmas.List.{take_at, get_or-take, get_or_past, get_or_append_left, get_or-append_right, length-take-le, length-replicate}
 use Rattle.std.proofs.lemmas.Bool.{cases_lt}
-use Rattle.memory.specs.Shape.{Shape, size, Imaged}
+use Rattle.memory.specs.Shape.{size}
 use Rattle.memory.proofs.Loops.{byte-replicate}
 use Rattle.port.specs.Chip as of_chip
 use Rattle.port.specs.Chip.{Chip, shape}

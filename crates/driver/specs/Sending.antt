@@ -1,5 +1,5 @@
 -- The two frames of a cycle.
-use Rattle.std.specs.Prelude.{◌≡◌, ℕ, ◌+◌, ◌*◌, ◌/◌, ◌<◌, ◌≤◌, Bool, true, false, cond, not, ◌&&◌, List, [], ◌∷◌, ◌++◌, length, ◌==◌, bit_and, nat_eq, nat_le, nat_lt, refl}
+use Rattle.std.specs.Prelude.{◌≡◌, ℕ, ◌*◌, ◌/◌, ◌<◌, ◌≤◌, Bool, true, false, cond, not, ◌&&◌, List, [], ◌∷◌, ◌++◌, length, ◌==◌, bit_and, nat_eq, nat_le, nat_lt, refl}
 use Rattle.std.proofs.Common.{sym, ap, ap₂, subst, ◌∙◌, arith, lit≤}
 use Rattle.std.proofs.lemmas.Bool.{cond-true, eq-eqb, and_parts, and_from, ltb-true, leb-true, lt-ltb}
 use Rattle.memory.specs.declared.kind.Kind.{Kind}
@@ -9,14 +9,14 @@ use Rattle.memory.specs.Page.{page, blank}
 use Rattle.memory.specs.Protection.{protects}
 use Rattle.memory.specs.Cycle.{Cycle, cycle_of, effect}
 use Rattle.memory.specs.Image.{reaches}
-use Rattle.port.specs.declared.instruction.Operation.TheVariants.{WriteEnable, Program, Alter, Preset, SectorErase, BulkErase}
+use Rattle.port.specs.declared.instruction.Operation.TheVariants.{WriteEnable, Program, Alter, Preset, SectorErase}
 use Rattle.port.specs.Instructions.{table}
 use Rattle.port.specs.Build.{built, listed}
 use Rattle.port.specs.Chip.{Chip, shape}
-use Rattle.port.specs.Machine.{Ask, enable, cycle, unknown, heard, hears, ordered, act, after, done, latched, takes, Frame}
+use Rattle.port.specs.Machine.{enable, cycle, unknown, heard, hears, ordered, act, after, done, latched, takes}
 use Rattle.port.proofs.Building.{understood}
 use Rattle.part.specs.declared.outline.Outline.{Outline}
-use Rattle.part.specs.Outline.{outlined, guards, guarding}
+use Rattle.part.specs.Outline.{outlined, guarding}
 use Rattle.part.specs.Verdict.{inside, fills, permits, presets}
 use Rattle.part.specs.Guards.{guard_at, free-guards}
 use Rattle.driver.specs.Frames.{Sendable, largest, operation_of, enable_frame, cycle_frame, looks}

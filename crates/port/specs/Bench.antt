@@ -1,5 +1,5 @@
 -- The bench chip as a chip, and its making.
-use Rattle.std.specs.Prelude.{ℕ, ◌%◌, Bool, false, cond, List, length, Some, None, Option, ◌==◌, nat_le}
+use Rattle.std.specs.Prelude.{ℕ, ◌%◌, false, cond, List, Some, None, Option, ◌==◌, nat_le}
 use Rattle.memory.specs.Shape.{size}
 use Rattle.memory.specs.Image.{bytes_of}
 use Rattle.memory.specs.Models.{models, lookup, model_shape}

@@ -1,5 +1,5 @@
 -- What a reader of the data sheet would ask of the machine.
-use Rattle.std.specs.Prelude.{◌≡◌, ℕ, ◌+◌, ◌/◌, ◌%◌, ◌<◌, Bool, true, false, cond, ◌⊎◌, List, [], ◌∷◌, length, replicate, Some, None, Option, ◌≢◌, slice_index}
+use Rattle.std.specs.Prelude.{◌≡◌, ℕ, ◌+◌, ◌/◌, ◌%◌, ◌<◌, true, false, cond, ◌⊎◌, List, length, replicate, Some, None, Option, ◌≢◌, slice_index}
 use Rattle.memory.specs.Shape.{sector_at}
 use Rattle.memory.specs.Protection.{protects}
 use Rattle.memory.specs.Cycle.{Cycle, program, alter, preset, sector_erase, bulk_erase, effect}

@@ -1,9 +1,9 @@
-use Rattle.std.proofs.Common.{◌≡◌, ℕ, ◌+◌, ◌-◌, ◌≤◌, Bool, true, cond, leb, List, [], ◌∷◌, ◌++◌, length, get_or, take, drop, is_ok, Ok, Err, Result, sym, refl, ap, ◌∙◌, subst, arith}
+use Rattle.std.proofs.Common.{◌≡◌, ℕ, ◌-◌, ◌≤◌, Bool, true, cond, List, [], ◌∷◌, length, get_or, take, drop, is_ok, Ok, Result, ap, ◌∙◌, subst, arith}
 use Rattle.std.proofs.lemmas.List.{take_at}
 use Rattle.std.proofs.lemmas.Bool.{cond-true, le-leb}
 use Rattle.port.specs.declared.fault.PortFault.{PortFault}
 use Rattle.port.specs.Build.{built}
-use Rattle.port.specs.Machine.{Frame, frame, answer, after, verdict}
+use Rattle.port.specs.Machine.{frame, answer, after, verdict}
 use Rattle.driver.proofs.ask.ask.Goals as goal
 
 same_ok : (m n : ℕ) → ◌≡◌ {A = Result ℕ PortFault} (Ok m) (Ok n) → m ≡ n

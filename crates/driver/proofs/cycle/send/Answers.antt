@@ -1,9 +1,8 @@
-use Rattle.std.proofs.Common.{◌≡◌, ℕ, ◌+◌, ◌≤◌, List, [], ◌∷◌, ◌++◌, length, sym, refl, ap, ◌∙◌, subst, arith}
+use Rattle.std.proofs.Common.{◌≡◌, [], ◌∷◌, length, ap, ◌∙◌, subst, arith}
 use Rattle.port.specs.declared.instruction.Operation.{Operation}
 use Rattle.port.specs.Build.{built}
-use Rattle.port.specs.Chip.{Chip}
 use Rattle.port.specs.Machine.{Frame, frame, after}
-use Rattle.driver.specs.Frames.{enable_frame, cycle_frame, operation_of}
+use Rattle.driver.specs.Frames.{cycle_frame, operation_of}
 use Rattle.driver.specs.Sending.{length-enable, length-cycle, after-enable}
 use Rattle.driver.proofs.cycle.send.Goals as goal
 

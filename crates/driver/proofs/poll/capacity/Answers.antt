@@ -1,4 +1,4 @@
-use Rattle.std.proofs.Common.{◌≡◌, ℕ, get_or, sym, ap, ◌∙◌, arith}
+use Rattle.std.proofs.Common.{get_or, ap, ◌∙◌, arith}
 use Rattle.driver.specs.Hearing.{length-identify, answer-identify, after-identify}
 use Rattle.driver.proofs.poll.capacity.Goals as goal
 

@@ -1,4 +1,4 @@
-use Rattle.std.proofs.Common.{◌≡◌, not, sym, ap, ◌∙◌}
+use Rattle.std.proofs.Common.{not, ap}
 use Rattle.driver.specs.Hearing.{wip}
 use Rattle.driver.proofs.poll.is_busy.Goals as goal
 

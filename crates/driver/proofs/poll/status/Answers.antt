@@ -1,4 +1,4 @@
-use Rattle.std.proofs.Common.{◌≡◌, ℕ, get_or, sym, ap, ◌∙◌, arith}
+use Rattle.std.proofs.Common.{get_or, ap, ◌∙◌, arith}
 use Rattle.driver.specs.Hearing.{length-status, answer-status, after-status}
 use Rattle.driver.proofs.poll.status.Goals as goal
 

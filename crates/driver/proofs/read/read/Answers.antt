@@ -1,13 +1,10 @@
-use Rattle.std.proofs.Common.{◌≡◌, ℕ, ◌+◌, ◌-◌, ◌<◌, ◌≤◌, min, List, [], ◌∷◌, ◌++◌, length, get_or, take, drop, sym, refl, ap, ◌∙◌, subst, ap₂, arith, length-drop, length-take}
-use borrow.Rule.Slice.PartMut.{put_mid}
+use Rattle.std.proofs.Common.{◌≡◌, ℕ, ◌+◌, ◌-◌, ◌<◌, ◌≤◌, min, List, [], ◌∷◌, ◌++◌, length, get_or, take, drop, sym, ap, ◌∙◌, subst, ap₂, arith, length-drop, length-take}
 use Rattle.std.proofs.lemmas.List.{append_assoc, append-nil, take_all}
 use Rattle.std.proofs.lemmas.Slice.{take-put_mid}
 use Rattle.memory.specs.Page.{block}
 use Rattle.memory.proofs.Rolled.{rolled-within}
-use Rattle.port.specs.declared.instruction.Operation.TheVariants.{Read}
-use Rattle.port.specs.Build.{built}
 use Rattle.port.specs.Chip.{Chip}
-use Rattle.port.specs.Machine.{Frame, frame}
+use Rattle.port.specs.Machine.{Frame}
 use Rattle.driver.specs.Frames.{read_frame, reads}
 use Rattle.driver.specs.Hearing.{length-read, after_read, answer-read}
 use Rattle.driver.specs.Reading.{reads_more, reads-done, block_more}

@@ -1,8 +1,8 @@
-use Rattle.std.proofs.Common.{◌≡◌, ℕ, ◌-◌, ◌<◌, ◌≤◌, length, get_or, take, drop, sym, ap, ◌∙◌, ap₂, arith, length-drop, rules}
+use Rattle.std.proofs.Common.{◌-◌, ◌≤◌, length, get_or, drop, sym, ◌∙◌, ap₂, arith, length-drop, rules}
 use Rattle.std.proofs.lemmas.List.{take_rest}
 use Rattle.port.specs.Instructions.{table, lookup}
-use Rattle.port.specs.Machine.{shaped_by, address_in, data_in}
-use Rattle.port.proofs.Frames.{ordered_is, address_short, data_short, address_long, data_long}
+use Rattle.port.specs.Machine.{shaped_by}
+use Rattle.port.proofs.Frames.{ordered_is, address_long, data_long}
 use Rattle.port.proofs.decode.decode.Goals as goal
 
 pub returns-in-len4-up : goal.returns-in-len4-up

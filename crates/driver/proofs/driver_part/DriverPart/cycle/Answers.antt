@@ -1,4 +1,4 @@
-use Rattle.std.proofs.Common.{◌≡◌, ℕ, ◌+◌, ◌-◌, ◌*◌, ◌/◌, ◌≤◌, Bool, true, false, not, List, [], ◌∷◌, ◌++◌, length, Some, None, sym, refl, ap, ◌∙◌, arith}
+use Rattle.std.proofs.Common.{◌≡◌, ℕ, ◌+◌, ◌-◌, ◌*◌, ◌/◌, ◌≤◌, Bool, true, false, not, List, [], ◌∷◌, ◌++◌, length, None, sym, refl, ap, ◌∙◌, arith}
 use Rattle.std.proofs.lemmas.Bool.{true≢false, false≢true, not-true}
 use Rattle.memory.specs.declared.kind.Kind.{Kind}
 use Rattle.memory.specs.Page.{page, blank}
@@ -6,7 +6,7 @@ use Rattle.port.specs.Chip as of_chip
 use Rattle.port.specs.Chip.{Chip}
 use Rattle.port.specs.Machine.{after}
 use Rattle.part.specs.declared.outline.Outline.{Outline}
-use Rattle.part.specs.Meaning.{Meaning, carried, protected_at}
+use Rattle.part.specs.Meaning.{Meaning, protected_at}
 use Rattle.part.specs.Outline.{outlined, guarding}
 use Rattle.part.specs.Verdict.{told, idle, refusal, inside, fills, permits, presets, clean_at}
 use Rattle.part.proofs.Refusals.{Passes, outlines_cycle, refused_early, soiled, done_all, all_passed}

@@ -1,16 +1,16 @@
-use Rattle.std.proofs.Common.{◌≡◌, ℕ, ◌+◌, ◌-◌, ◌*◌, ◌≤◌, not, List, [], ◌∷◌, length, sym, refl, ap, ◌∙◌, arith}
+use Rattle.std.proofs.Common.{ℕ, ◌+◌, ◌-◌, ◌*◌, ◌≤◌, not, [], ◌∷◌, length, sym, refl, ap, ◌∙◌, arith}
 use Rattle.std.proofs.lemmas.Bool.{true≢false, false≢true}
 use Rattle.memory.specs.Page.{block}
 use Rattle.port.specs.Chip.{Chip}
 use Rattle.part.specs.declared.outline.Outline.{Outline}
 use Rattle.part.specs.Meaning.{asked}
 use Rattle.part.specs.Outline.{outlined}
-use Rattle.part.specs.Verdict.{told, read_refusal}
+use Rattle.part.specs.Verdict.{told}
 use Rattle.part.proofs.Refusals.{outlines_read, read-inside}
-use Rattle.driver.specs.Driving.{Drives, Intact, seen}
+use Rattle.driver.specs.Driving.{seen}
 use Rattle.driver.specs.Frames.{reads}
 use Rattle.driver.specs.Reading.{reads_carry, reads-harmless, reads_no_status}
-use Rattle.driver.specs.Seeing.{seen_outline, seen-image, chip_long, idle_chip}
+use Rattle.driver.specs.Seeing.{seen_outline, seen-image, chip_long}
 use Rattle.driver.specs.Driven.{drives_none, drives_quiet}
 use Rattle.driver.proofs.driver_part.DriverPart.read.Goals as goal
 

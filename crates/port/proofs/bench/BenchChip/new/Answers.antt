@@ -1,9 +1,9 @@
-use Rattle.std.proofs.Common.{◌≡◌, ℕ, Bool, true, false, cond, eqb, Some, None, Option, sym, ap, ◌∙◌, arith}
+use Rattle.std.proofs.Common.{◌≡◌, ℕ, Bool, true, false, cond, Some, None, Option, sym, ap, ◌∙◌, arith}
 use Rattle.memory.specs.declared.image.ImageFault.{ImageFault}
 use Rattle.memory.specs.declared.image.ImageFault.TheVariants.{Length}
 use Rattle.port.specs.declared.fault.Making.{Making}
 use Rattle.port.specs.declared.fault.Making.TheVariants as making
-use Rattle.port.specs.Bench.{imaging, unmade, fault_of}
+use Rattle.port.specs.Bench.{imaging, fault_of}
 use Rattle.memory.proofs.Models.{models-unmade}
 use Rattle.port.proofs.bench.BenchChip.new.Goals as goal
 

@@ -1,4 +1,4 @@
-use Rattle.std.proofs.Common.{◌≡◌, length, is_ok, sym, refl}
+use Rattle.std.proofs.Common.{length, is_ok, sym, refl}
 use Rattle.port.specs.Bench.{chip_of}
 use Rattle.port.specs.Machine.{frame}
 use Rattle.port.specs.Settled.{settles_if, shows_if, runs_if}

@@ -1,4 +1,4 @@
-use Rattle.std.proofs.Common.{◌≡◌, ◌<◌, length, get_or, refl, ap, ◌∙◌, lit<}
+use Rattle.std.proofs.Common.{◌<◌, length, get_or, ap, ◌∙◌, lit<}
 use Rattle.std.proofs.lemmas.List.{get_or_default}
 use Rattle.port.specs.declared.instruction.Operation.{Operation}
 use Rattle.port.specs.declared.instruction.Operation.TheVariants.{WriteEnable, WriteDisable, ReadStatus, Identify, Read, FastRead, Program, Alter, Preset, SectorErase, BulkErase}
