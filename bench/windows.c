@@ -1,6 +1,6 @@
 /* The windows and costs of a write of a whole 128Mb memory, by plain loops over two byte arrays: the yardstick for `plan`.
  *
- *     gcc -O3 -o target/windows bench/windows.c && target/windows
+ *     gcc -O3 -o /tmp/windows bench/windows.c && /tmp/windows
  *
  * Prints the cost, and the seconds of three parts: the windows and costs of all pages, kept and once erased, with the choice
  * by sectors and bulk; the steps and data of the plan chosen; and one copy of the memory, page by page, as a read is one. */

@@ -17,8 +17,8 @@ fn run(word: &str) -> Result<(usize, u8), Fault> {
 }
 
 fn repeat(bytes: &mut Vec<u8>, count: usize, value: u8) -> Result<(), AllocError>
-    ensures ok { OnOk result (bytes.new.items ≡ bytes.old.items ++ replicate count value) }
-    ensures ok_2 { OnOk result (vec_len bytes.new ≡ vec_len bytes.old + count) }
+    ensures items { OnOk result (bytes.new.items ≡ bytes.old.items ++ replicate count value) }
+    ensures len { OnOk result (vec_len bytes.new ≡ vec_len bytes.old + count) }
 {
     for _ in 0..count {
         bytes.push(value)?;
