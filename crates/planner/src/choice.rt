@@ -22,7 +22,7 @@ fn sector_cost<P: Part>(
 ) -> (bool, (usize, usize), (usize, usize))
     requires { Fitting (P.Part.meaning part.old) write.address write.bytes.now × (k < (P.Part.meaning part.old).shape.sectors) }
     ensures looked { LookedBy P.Part.meaning P.Part.trace P.Part.intact (64 * (P.Part.meaning part.old).shape.pages) part.old part.new }
-    ensures bound { (result.1.0 ≤ 4097) × (result.1.1 ≤ 262144) }
+    ensures bound { (result.1.0 ≤ 2049) × (result.1.1 ≤ 131072) }
     ensures presets { (result.2.0 ≤ 2048) × (result.2.1 ≤ 131072) }
     ensures first { P.Part.intact part.old → result.0 ≡ erases (P.Part.meaning part.old) write.entry.address write.entry.bytes.now k }
     ensures value { P.Part.intact part.old → result.1 ≡ sector_cost fewest (P.Part.meaning part.old).shape (kept (P.Part.meaning part.old) write.entry.address write.entry.bytes.now) (preset (P.Part.meaning part.old) write.entry.address write.entry.bytes.now) k }

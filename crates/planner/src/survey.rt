@@ -17,6 +17,7 @@ fn page_costs<P: Part>(part: &mut P, write: Write<'_>, q: usize) -> ((usize, usi
     ensures looked { LookedBy P.Part.meaning P.Part.trace P.Part.intact (if touched write.entry.address write.entry.bytes.now q then 64 else 0) part.old part.new }
     ensures keeping { (result.0.0 ≤ 1) × (result.0.1 ≤ 64) }
     ensures erased { (result.1.0 ≤ 1) × (result.1.1 ≤ 64) }
+    ensures apart { let n = if touched write.entry.address write.entry.bytes.now q then 64 else 0 in (64 * result.1.0 ≤ n) × (result.1.1 ≤ n) }
     ensures kept { P.Part.intact part.old → result.0 ≡ kept (P.Part.meaning part.old) write.entry.address write.entry.bytes.now q }
     ensures preset { P.Part.intact part.old → result.1 ≡ preset_on (P.Part.meaning part.old) write.entry.address write.entry.bytes.now q }
 {
@@ -32,6 +33,7 @@ fn rest_cost<P: Part>(part: &mut P, write: Write<'_>, q: usize) -> (usize, usize
     requires { Fitting (P.Part.meaning part.old) write.address write.bytes.now × Readable (P.Part.meaning part.old) q }
     ensures looked { LookedBy P.Part.meaning P.Part.trace P.Part.intact (if touched write.entry.address write.entry.bytes.now q then 0 else 64) part.old part.new }
     ensures bound { (result.0 ≤ 1) × (result.1 ≤ 64) }
+    ensures apart { let n = if touched write.entry.address write.entry.bytes.now q then 0 else 64 in (64 * result.0 ≤ n) × (result.1 ≤ n) }
     ensures value { P.Part.intact part.old → result ≡ preset_off (P.Part.meaning part.old) write.entry.address write.entry.bytes.now q }
 {
     if touches(write, q) {
@@ -53,6 +55,7 @@ pub(crate) fn touched_costs<P: Part>(
     ensures looked { LookedBy P.Part.meaning P.Part.trace P.Part.intact (bytes_on write.entry.address write.entry.bytes.now first count) part.old part.new }
     ensures keeping { (result.0.0 ≤ count) × (result.0.1 ≤ 64 * count) }
     ensures erased { (result.1.0 ≤ count) × (result.1.1 ≤ 64 * count) }
+    ensures apart { let n = bytes_on write.entry.address write.entry.bytes.now first count in (64 * result.1.0 ≤ n) × (result.1.1 ≤ n) }
     ensures kept { P.Part.intact part.old → result.0 ≡ kept_from (P.Part.meaning part.old) write.entry.address write.entry.bytes.now first count }
     ensures presets { P.Part.intact part.old → result.1 ≡ on_from (P.Part.meaning part.old) write.entry.address write.entry.bytes.now first count }
 {
@@ -81,6 +84,7 @@ pub(crate) fn erase_costs<P: Part>(
     requires presets_bound { (presets.0 ≤ 262144) × (presets.1 ≤ 16777216) }
     ensures looked { LookedBy P.Part.meaning P.Part.trace P.Part.intact (bytes_off write.entry.address write.entry.bytes.now first count) part.old part.new }
     ensures bound { IfSome result (λ cost. (cost.0 ≤ 1 + presets.0 + count) × (cost.1 ≤ presets.1 + 64 * count)) }
+    ensures apart { let n = bytes_off write.entry.address write.entry.bytes.now first count in IfSome result (λ cost. (64 * cost.0 ≤ 64 + 64 * presets.0 + n) × (cost.1 ≤ presets.1 + n)) }
     ensures value { P.Part.intact part.old → presets ≡ on_from (P.Part.meaning part.old) write.entry.address write.entry.bytes.now first count → result ≡ below limit (erased_from (P.Part.meaning part.old) write.entry.address write.entry.bytes.now first count) }
 {
     let mut cost = (1 + presets.0, presets.1);

@@ -18,6 +18,8 @@ loop-j-init g c = (
   omega arith,
   omega arith,
   λ _. sym (plus_none (fewest_lawful 64) (1 + c.args.presets.0, c.args.presets.1)),
+  omega arith,
+  omega arith,
 )
 
 pub returns-then-at_most : goal.returns-then-at_most
@@ -33,6 +35,7 @@ returns-then-at_most g c =
     record {
       looked = looked_most g.P.Part.meaning g.P.Part.trace g.P.Part.intact _ _ _ _ inv.0 (off_front c.args.write.address c.args.write.bytes.now c.args.first c.args.count c.loop-j.j (omega arith));
       bound = tt;
+      apart = tt;
       value =
           λ h e.
           sym (cond-true _ _ _
@@ -52,13 +55,15 @@ loop-j-preserved g c =
     let start : ℕ × ℕ = (1 + c.args.presets.0, c.args.presets.1) in
     let f : ℕ → ℕ × ℕ = λ i. preset_off m a b (c.args.first + i) in (
       looked_join g.P.Part.meaning g.P.Part.trace g.P.Part.intact g.met.P.Part.joins _ _ _ _ _ _ inv.0 page.looked (same_most _ _ (sym (off_more a b c.args.first c.loop-j.j))),
-      omega (arith, inv, page.bound),
-      omega (arith, inv, page.bound),
+      omega (arith, inv.1, page.bound),
+      omega (arith, inv.2, page.bound),
       λ h.
           ap₂ (λ x y. fewest.plus x y) (inv.3 h)
           (page.value (inv.0.keeps h) ∙ ap (λ x. preset_off x a b (c.args.first + c.loop-j.j)) inv.0.same)
           ∙ ((fewest_lawful 64).plus_assoc start (sum_to fewest c.loop-j.j f) (f c.loop-j.j)
           ∙ ap (λ x. fewest.plus start x) (sym (sum_more fewest c.loop-j.j f))),
+      omega (arith, inv.4, page.apart, off_more a b c.args.first c.loop-j.j),
+      omega (arith, inv.5, page.apart, off_more a b c.args.first c.loop-j.j),
     )
 
 -- the cost, once no page is left
@@ -76,6 +81,7 @@ returns-then-at_most-2 g c =
     record {
       looked = looked_most g.P.Part.meaning g.P.Part.trace g.P.Part.intact _ _ _ _ inv.0 (off_front c.args.write.address c.args.write.bytes.now c.args.first c.args.count c.loop-j.j (omega arith));
       bound = tt;
+      apart = tt;
       value =
           λ h e.
           sym (cond-true _ _ _
@@ -91,6 +97,9 @@ returns-else-at_most-2 g c =
     record {
       looked = looked_most g.P.Part.meaning g.P.Part.trace g.P.Part.intact _ _ _ _ inv.0 (off_front c.args.write.address c.args.write.bytes.now c.args.first c.args.count c.loop-j.j (omega arith));
       bound = (omega (arith, inv.1), omega (arith, inv.2));
+      apart =
+          let n = off_front c.args.write.address c.args.write.bytes.now c.args.first c.args.count c.loop-j.j (omega arith) in
+          (omega (arith, inv.4, n), omega (arith, inv.5, n));
       value =
           λ h e.
           sym (cond-false _ _ _ (sym c.if-at_most-2.ensures))

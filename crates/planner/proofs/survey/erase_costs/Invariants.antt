@@ -10,3 +10,5 @@ invariant-loop-j g l =
     LookedBy g.P.Part.meaning g.P.Part.trace g.P.Part.intact (bytes_off l.write.address l.write.bytes.now l.first l.j) l.initial.part l.part
     × (l.cost.0 ≤ l.initial.cost.0 + l.j) × (l.cost.1 ≤ l.initial.cost.1 + 64 * l.j)
     × (g.P.Part.intact l.initial.part → l.cost ≡ fewest.plus l.initial.cost (off_from (g.P.Part.meaning l.initial.part) l.write.address l.write.bytes.now l.first l.j))
+    × (64 * l.cost.0 ≤ 64 * l.initial.cost.0 + bytes_off l.write.address l.write.bytes.now l.first l.j)
+    × (l.cost.1 ≤ l.initial.cost.1 + bytes_off l.write.address l.write.bytes.now l.first l.j)

@@ -15,6 +15,8 @@ loop-j-init g c = (
   omega arith,
   λ _. refl,
   λ _. refl,
+  omega arith,
+  omega arith,
 )
 
 pub loop-j-preserved : goal.loop-j-preserved
@@ -36,4 +38,6 @@ loop-j-preserved g c =
       λ h.
           ap₂ (λ x y. fewest.plus x y) (inv.6 h) (page.preset (inv.0.keeps h) ∙ ap (λ x. preset_on x a b q) inv.0.same)
           ∙ sym (sum_more fewest c.loop-j.j (λ i. preset_on m a b (c.args.first + i))),
+      omega (arith, inv.7, page.apart, on_more a b c.args.first c.loop-j.j),
+      omega (arith, inv.8, page.apart, on_more a b c.args.first c.loop-j.j),
     )

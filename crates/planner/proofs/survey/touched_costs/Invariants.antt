@@ -13,3 +13,4 @@ invariant-loop-j g l =
     × (l.keep.0 ≤ l.j) × (l.keep.1 ≤ 64 * l.j) × (l.presets.0 ≤ l.j) × (l.presets.1 ≤ 64 * l.j)
     × (g.P.Part.intact l.initial.part → l.keep ≡ kept_from m a b l.first l.j)
     × (g.P.Part.intact l.initial.part → l.presets ≡ on_from m a b l.first l.j)
+    × (64 * l.presets.0 ≤ bytes_on a b l.first l.j) × (l.presets.1 ≤ bytes_on a b l.first l.j)
