@@ -87,6 +87,6 @@ fn a_limit_is_for_the_writes_that_follow(rt: HostRuntime) -> Result<(), Fail> {
         return Err(Fail::new("no write"));
     };
     assert_eq!(rt; (*address, *limit), (60, 3));
-    assert_eq!(rt; bytes.as_slice(), &[0x0A, 0x0A, 0x0A, 0xFF]);
+    assert_eq!(rt; bytes.as_slice(), [0x0A, 0x0A, 0x0A, 0xFF].as_slice());
     Ok(())
 }
