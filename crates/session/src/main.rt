@@ -3,12 +3,12 @@
 
 mod play;
 
-use anyhow::anyhow;
 use play::play;
 use script::read::{MOST_TEXT, read_script};
 use std::io::{Read, Write};
+use std::process::ExitCode;
 
-fn main(rt: HostRuntime) -> anyhow::Result<()> {
+fn main(rt: HostRuntime) -> anyhow::Result<ExitCode> {
     let heap = rt.alloc();
     let mut text = Vec::new(heap);
     // one byte more, so that a script that is too long is seen to be
@@ -18,11 +18,11 @@ fn main(rt: HostRuntime) -> anyhow::Result<()> {
     match read_script(heap, &text) {
         Ok(script) => {
             rt.stdout().write_all(&play(heap, script)?)?;
-            Ok(())
+            Ok(ExitCode::SUCCESS)
         }
         Err(fault) => {
             eprintln!(rt; "{fault}")?;
-            Err(anyhow!("the script is faulty"))
+            Ok(ExitCode::FAILURE)
         }
     }
 }
