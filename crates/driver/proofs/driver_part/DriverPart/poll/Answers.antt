@@ -15,10 +15,9 @@ returns g c =
       | then-self w ↦ w.self-is ∙ c.is_busy-busy.ensures.busy ∙ sym (ap (λ x. x && not (eqb chip.busy 0)) w.if-self.true)
       | else-self w ↦ w.self-is ∙ w.if-self.false ∙ sym (ap (λ x. x && not (eqb chip.busy 0)) w.if-self.false)
     ] in
-    let d = drives_poll o _ chip (g.P.Port.chip c.is_busy-busy.new.port) refl refl b e in
     record {
       idle = seen-idle (with_busy c.if-self.self o) (g.P.Port.chip c.is_busy-busy.new.port);
       waited = seen-waited o (with_busy c.if-self.self o) chip (g.P.Port.chip c.is_busy-busy.new.port) refl refl b e;
-      trace = (status_frame ∷ [], c.is_busy-busy.ensures.trace, d);
-      intact = d.intact;
+      trace = (status_frame ∷ [], c.is_busy-busy.ensures.trace, drives_poll o _ chip (g.P.Port.chip c.is_busy-busy.new.port) refl refl b e);
+      intact = λ _. tt;
     }
