@@ -1,0 +1,30 @@
+use Rattle.std.proofs.Common.{◌≡◌, ℕ, ◌+◌, ◌<◌, ◌≤◌, min, ◌⊎◌, List, length, Some, sym, refl, ap, ◌∙◌, inl, inr, arith}
+use Rattle.std.proofs.lemmas.Bool.{leb-true}
+use Rattle.least.specs.Window.{window}
+use Rattle.planner.proofs.Sendings.{sent-short, sent-page}
+use Rattle.planner.proofs.sheet.Sheet.put_page.Goals as goal
+use Rattle.planner.proofs.sheet.Sheet.put_page.Goals.{then-is_full-via-then-is_full, then-is_full-via-else-is_full+then-length-self}
+
+window_is : (old new : List ℕ) (w : ℕ × ℕ) → length old ≡ 64 → length new ≡ 64
+    → Some w ≡ window (min (length old) (length new)) old new → Some w ≡ window 64 old new
+window_is old new w e f v = v ∙ ap (λ z. window z old new) z
+  where
+    z : min (length old) (length new) ≡ 64
+    z = omega arith
+
+pub returns-then-is_full : goal.returns-then-is_full
+returns-then-is_full c =
+    let sheet = c.args.self.now in
+    let w : ℕ × ℕ = (c.in-Some.start, c.in-Some.length) in
+    let no_room : (length sheet.steps.now ≤ sheet.used) ⊎ (length sheet.data.now < sheet.sent + w.1) =
+    elim c.then-is_full.branch [
+      | then-is_full-via-then-is_full v ↦ inl (leb-true _ _ (sym v.if-is_full.ensures))
+      | then-is_full-via-else-is_full+then-length-self v ↦ inr (omega (arith, v.if-length-self.true))
+    ] in
+    sent-short c.args.kind c.requires.0 64 c.args.q c.args.new.now w _ (window_is c.args.old.now c.args.new.now w c.requires.1 c.requires.2 c.in-Some.ensures.value) sheet no_room
+
+pub returns : goal.returns
+returns c =
+    let w : ℕ × ℕ = (c.in-Some.start, c.in-Some.length) in
+    sent-page c.args.kind c.requires.0 64 c.args.q c.args.new.now w _ (window_is c.args.old.now c.args.new.now w c.requires.1 c.requires.2 c.in-Some.ensures.value)
+    c.args.self.now _ refl refl refl c.send_bytes.ensures refl refl
