@@ -63,7 +63,7 @@ impl<'a> Sheet<'a> {
             place: self.sent,
         };
         let data = &mut *self.data;
-        send_bytes(data, self.sent, new, (start, length));
+        send_bytes(&mut data[self.sent..self.sent + length], new, start);
         self.used += 1;
         self.sent += length;
     }
@@ -86,12 +86,12 @@ impl<'a> Sheet<'a> {
     }
 }
 
-// The bytes of a window, which comes round at the page's end.
-fn send_bytes(data: &mut [u8], at: usize, page: &[u8], window: (usize, usize))
-    requires { (length page.now ≡ 64) × (window.0 < 64) × (at + window.1 ≤ length «data».old) }
-    ensures { «data».new ≡ sets «data».old at (bytes_from 64 page.now window.0 window.1) }
+// The bytes of a page from a place on, which come round at the page's end, as many as fill the buffer.
+fn send_bytes(data: &mut [u8], page: &[u8], start: usize)
+    requires { (length page.now ≡ 64) × (start < 64) }
+    ensures { «data».new ≡ bytes_from 64 page.now start (length «data».old) }
 {
-    for i in 0..window.1 {
-        data[at + i] = page[(window.0 + i % PAGE_BYTES) % PAGE_BYTES];
+    for (i, byte) in data.iter_mut().enumerate() {
+        *byte = page[(start + i) % PAGE_BYTES];
     }
 }

@@ -1,6 +1,8 @@
-use Rattle.std.proofs.Common.{◌≡◌, ℕ, ◌+◌, ◌<◌, ◌≤◌, min, ◌⊎◌, List, length, Some, sym, refl, ap, ◌∙◌, inl, inr, arith}
+use Rattle.std.proofs.Common.{◌≡◌, ℕ, ◌+◌, ◌-◌, ◌<◌, ◌≤◌, min, ◌⊎◌, List, length, take, drop, Some, sym, refl, ap, ◌∙◌, inl, inr, arith, length-take, length-drop}
 use Rattle.std.proofs.lemmas.Bool.{leb-true}
 use Rattle.least.specs.Window.{window}
+use Rattle.least.specs.Plan.{bytes_from}
+use Rattle.planner.proofs.Pages.{put_run}
 use Rattle.planner.proofs.Sendings.{sent-short, sent-page}
 use Rattle.planner.proofs.sheet.Sheet.put_page.Goals as goal
 use Rattle.planner.proofs.sheet.Sheet.put_page.Goals.{then-is_full-via-then-is_full, then-is_full-via-else-is_full+then-length-self}
@@ -25,6 +27,10 @@ returns-then-is_full c =
 
 pub returns : goal.returns
 returns c =
+    let sheet = c.args.self.now in
     let w : ℕ × ℕ = (c.in-Some.start, c.in-Some.length) in
+    let n : length (take (sheet.sent + w.1 - sheet.sent) (drop sheet.sent sheet.data.now)) ≡ w.1 = simp (length-take, length-drop) (omega arith) in
     sent-page c.args.kind c.requires.0 64 c.args.q c.args.new.now w _ (window_is c.args.old.now c.args.new.now w c.requires.1 c.requires.2 c.in-Some.ensures.value)
-    c.args.self.now _ refl refl refl c.send_bytes.ensures refl refl
+    sheet _ refl refl refl
+    (put_run 64 c.args.new.now sheet.data.now c.send_bytes.new.data w.0 sheet.sent w.1 _ (omega arith) (omega arith) (c.send_bytes.ensures ∙ ap (λ k. bytes_from 64 c.args.new.now w.0 k) n))
+    refl refl
