@@ -1,22 +1,16 @@
 -- What a page's cycle is, once its bytes are known.
-use Rattle.std.proofs.Common.{◌≡◌, ℕ, ◌+◌, ◌-◌, ◌*◌, ◌<◌, ◌≤◌, Bool, true, false, cond, List, ◌++◌, replicate, Some, None, Option, sym, refl, ap, ◌∙◌, subst, ap₂, arith}
+use Rattle.std.proofs.Common.{◌≡◌, ℕ, ◌+◌, ◌-◌, ◌≤◌, Bool, true, false, cond, List, ◌++◌, replicate, Some, None, Option, refl, ap, ◌∙◌, ap₂, arith}
 use Rattle.std.specs.Prelude.{if◌then◌else◌}
 use Rattle.memory.specs.declared.kind.Kind.{Kind}
 use Rattle.memory.specs.declared.kind.Kind.TheVariants.{Program, Alter, Preset}
 use Rattle.memory.specs.Page.{page}
 use Rattle.memory.specs.Cycle.{cycle_of, program, alter, preset}
-use Rattle.memory.proofs.Blocks.{below_end}
 use Rattle.part.specs.Meaning.{Meaning}
 use Rattle.least.specs.Window.{window}
 use Rattle.least.specs.Plan.{lowers, keep_cycles, presets, sending}
 use Rattle.planner.specs.declared.emit.Pages.{Pages}
 use Rattle.planner.specs.Lists.{page_list, pages_list}
 use Rattle.planner.proofs.Totals.{list_more}
-
-pub sector-inside :
-    (m : Meaning) (k p : ℕ) → p ≡ m.shape.pages → k < m.shape.sectors → k * p + p ≤ m.shape.sectors * m.shape.pages
-sector-inside m k p e h =
-    subst (λ x. k * x + x ≤ m.shape.sectors * m.shape.pages) (sym e) (below_end m.shape.pages k m.shape.sectors h)
 
 -- what changes of a page, sent by a cycle of its kind
 kept_kind : (lower : Bool) (q : ℕ) (new : List ℕ) (w : Option (ℕ × ℕ))

@@ -1,4 +1,4 @@
--- Cycles put into a step list and a data buffer, one list after another.
+-- Cycles put on a sheet, one list after another.
 use Rattle.std.proofs.Common.{◌≡◌, ℕ, suc, ◌+◌, ◌*◌, ◌<◌, ◌≤◌, true, ◌⊎◌, List, [], ◌∷◌, ◌++◌, length, set, Some, Option, sym, refl, ap, ◌∙◌, subst, inl, inr, add-zero, arith, length-append}
 use Rattle.std.specs.Prelude.{⊤}
 use lib.Seq.{sets, length-sets}
@@ -40,11 +40,6 @@ sent_none known a =
       bytes = refl;
       put = λ _ _ _. record { listed = refl; laid = refl; used = sym (add-zero a.used); sent = sym (add-zero a.sent) };
     }
-
--- with no room for a step, nothing was to be put
-pub sent_full : (known : Type 0) (l : List Cycle) (a : Sheet) → length a.steps.now ≤ a.used → Sent known l a a
-sent_full known [] a h = sent_none known a
-sent_full known (c ∷ l) a h = record { steps = refl; bytes = refl; put = λ _ room _. absurd (omega arith) }
 
 -- what is known may say more, and tell which cycles they are
 pub sent_as :
