@@ -7,7 +7,7 @@ use std::marker::Model;
 use std::ops::{Add, AddAssign};
 
 // The derived order has fewer cycles first, then fewer bytes. A clause sees the pair (cycles, data bytes).
-#[derive(Clone, Copy, PartialEq, Eq, PartialOrd, Ord, Debug, Default)]
+#[derive(Clone, Copy, PartialEq, Eq, PartialOrd, Ord, Debug)]
 pub struct Cost {
     pub cycles: usize,
     pub bytes: usize,
@@ -21,6 +21,19 @@ impl Model for Cost {
     ghost view = { λ c. (c.cycles, c.bytes) };
 
     ghost inverse = { λ v. record { cycles = v.0; bytes = v.1 } };
+}
+
+impl Cost {
+    pub const NONE: Cost = Cost {
+        cycles: 0,
+        bytes: 0,
+    };
+
+    // of a sector, or of all
+    pub const ERASE: Cost = Cost {
+        cycles: 1,
+        bytes: 0,
+    };
 }
 
 // Both together, where neither count wraps.
