@@ -7,7 +7,7 @@ ghost use Rattle.least.specs.Steps.{address_of};
 ghost use Rattle.least.specs.Window.{window};
 
 use least::step::Step;
-use least::window::window;
+use least::window::{Run, window};
 use memory::kind::Kind;
 use memory::model::PAGE_BYTES;
 
@@ -50,7 +50,7 @@ impl<'a> Sheet<'a> {
         requires { (of_page kind ≡ true) × (length old.now ≡ 64) × (length new.now ≡ 64) × (q < 2 ^ 32) }
         ensures { Sent ⊤ (sending (cycle_of kind) 64 q new.now (window 64 old.now new.now)) self.old self.new }
     {
-        let Some((start, length)) = window(old, new) else {
+        let Some(Run { start, length }) = window(old, new) else {
             return;
         };
         if self.is_full() || length > self.data.len() - self.sent {
