@@ -22,7 +22,7 @@ use Rattle.least.specs.Writes.{planned, refused, past_the_end, steps_short, data
 use Rattle.planner.specs.Looking.{Fitting, wanted}
 use Rattle.planner.specs.Choice.{Chosen}
 use Rattle.planner.specs.Lists.{bulk_list, sector_list, sectors_list}
-use Rattle.planner.specs.Sending.{Sent}
+use Rattle.planner.specs.Sending.{Laid}
 use Rattle.planner.specs.Call.{Handed, plan_call, plan_inside, plan_list, polls_due}
 use Rattle.least.proofs.Laws.{fewest_lawful}
 use Rattle.least.proofs.Price.{plan-spent}
@@ -204,13 +204,12 @@ sets_all front n xs e f =
     sets-eq xs front 0 (omega arith) ∙ (ap (λ y. xs ++ y) (drop_all (0 + length xs) front (omega arith)) ∙ append-nil xs)
 
 pub put_all :
-    (l : List Cycle) (steps steps' : List Step) (sent sent' : List ℕ) (at : ℕ × ℕ) (n d : ℕ) → length steps ≡ n → length sent ≡ d
-    → length (steps_of l) ≡ n → length (data_of l) ≡ d → Sent l steps steps' sent sent' (0, 0) at
-    → (steps' ≡ steps_of l) × (sent' ≡ data_of l)
-put_all l steps steps' sent sent' at n d e f u v h =
+    (l : List Cycle) (steps steps' : List Step) (sent sent' : List ℕ) (n d : ℕ) → length steps ≡ n → length sent ≡ d
+    → length (steps_of l) ≡ n → length (data_of l) ≡ d → Laid l steps steps' sent sent' → (steps' ≡ steps_of l) × (sent' ≡ data_of l)
+put_all l steps steps' sent sent' n d e f u v h =
     let k = length-steps 0 l in
     let p = h (omega arith) (omega arith) in
-    (p.listed ∙ sets_all steps n (steps_of l) e u, p.laid ∙ sets_all sent d (data_of l) f v)
+    (p.0 ∙ sets_all steps n (steps_of l) e u, p.1 ∙ sets_all sent d (data_of l) f v)
 
 -- the call: the range, polls due, and then the planning of a write
 module _
