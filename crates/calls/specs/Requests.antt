@@ -39,6 +39,10 @@ outcome (Written cycles bytes) = done
 outcome (Refused refusal) = refused
 outcome (Abandoned cycles) = abandoned
 
+-- a call as it was left, and its answer
+abbrev pub entry : Call → Answer → Entry
+entry call answer = record { call = call; answer = answer }
+
 -- the call that was handed in: only a done read's buffer is another
 pub record Recorded (call : Call) (e : Entry) : Type 0 where
   pub same : asks e.call ≡ asks call
