@@ -6,10 +6,11 @@ ghost use Rattle.writing.specs.Wrote.{Carried, Wrote, buffers};
 
 use crate::fault::WriteFault;
 use least::step::Step;
+use part::limit::is_limit;
 use part::part::Part;
 use part::size::{is_inside, size_of};
 use planner::plan::plan;
-use planner::run::{MOST_POLLS, run};
+use planner::run::run;
 use planner::wait::wait;
 
 // A write that lies inside a part with nothing due.
@@ -43,7 +44,7 @@ pub fn write<P: Part>(
 ) -> Result<(usize, usize), WriteFault>
     ensures { Wrote P.Part.meaning P.Part.trace P.Part.intact limit address bytes.now (buffers steps.old steps.new «data».old «data».new) part.old part.new result }
 {
-    if limit == 0 || limit > MOST_POLLS {
+    if !is_limit(limit) {
         return Err(WriteFault::Limit(limit));
     }
     if !is_inside(size_of(part), address, bytes.len()) {

@@ -6,8 +6,8 @@ use Rattle.planner.proofs.Waiting.{polled_out, polled-short}
 use Rattle.writing.specs.Wrote.{no_limit, outside, still-busy, waited}
 use Rattle.writing.proofs.write.write.Goals as goal
 
-pub returns-then-limit-eq0 : goal.returns-then-limit-eq0
-returns-then-limit-eq0 g c = no_limit (grind (arith, nat_tests)) refl (refl, refl)
+pub returns-then-not-is_limit : goal.returns-then-not-is_limit
+returns-then-not-is_limit g c = no_limit (grind (arith, nat_tests)) refl (refl, refl)
 
 pub returns-then-not-is_inside : goal.returns-then-not-is_inside
 returns-then-not-is_inside g c = outside (grind (arith, nat_tests)) (grind (arith, nat_tests)) refl (refl, refl)
