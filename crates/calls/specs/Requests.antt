@@ -35,7 +35,7 @@ pub data Outcome : Type 0 where
 
 abbrev pub outcome : Answer → Outcome
 outcome Done = done
-outcome (Written cycles bytes) = done
+outcome (Written cost) = done
 outcome (Refused refusal) = refused
 outcome (Abandoned cycles) = abandoned
 

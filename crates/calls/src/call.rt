@@ -2,6 +2,7 @@
 ghost use Rattle.std.specs.Prelude.{◌≡◌};
 ghost use Rattle.calls.specs.Refusals.{part_answer, write_answer};
 
+use least::cost::Cost;
 use part::fault::PartFault;
 use writing::fault::WriteFault;
 
@@ -38,8 +39,8 @@ pub enum Refusal {
 #[derive(Clone, Copy)]
 pub enum Answer {
     Done,
-    // a done write: the cycles and the data bytes that it sent
-    Written(usize, usize),
+    // a done write: what it sent
+    Written(Cost),
     Refused(Refusal),
     // a write that was abandoned: the cycles sent
     Abandoned(usize),
@@ -57,12 +58,12 @@ impl From<Result<(), PartFault>> for Answer {
     }
 }
 
-impl From<Result<(usize, usize), WriteFault>> for Answer {
+impl From<Result<Cost, WriteFault>> for Answer {
     ghost from_gives = { λ res answer. answer ≡ write_answer res };
 
-    fn from(res: Result<(usize, usize), WriteFault>) -> Answer {
+    fn from(res: Result<Cost, WriteFault>) -> Answer {
         match res {
-            Ok((cycles, bytes)) => Answer::Written(cycles, bytes),
+            Ok(cost) => Answer::Written(cost),
             Err(WriteFault::Abandoned(cycles)) => Answer::Abandoned(cycles),
             Err(fault) => Answer::Refused(Refusal::Write(fault)),
         }

@@ -2,6 +2,7 @@
 ghost use Rattle.std.specs.Prelude.{◌≡◌};
 ghost use Rattle.writing.specs.WriteRows.{unplanned_as, unrun_as};
 
+use least::cost::Cost;
 use part::fault::PartFault;
 use planner::fault::PlanFault;
 use planner::run_fault::RunFault;
@@ -17,9 +18,9 @@ pub enum WriteFault {
     // the lowest byte of a protected sector that would have to change
     Protected(usize),
     // the step list has no room for a plan of this cost
-    StepsShort((usize, usize)),
+    StepsShort(Cost),
     // the data buffer has none
-    DataShort((usize, usize)),
+    DataShort(Cost),
     // polls were due beyond the limit after a cycle: the write was abandoned; the cycles sent
     Abandoned(usize),
     // the part refused a step of the plan, which no intact part does; steps count from 0

@@ -5,6 +5,7 @@ ghost use Rattle.planner.specs.Running.{allowed};
 ghost use Rattle.writing.specs.Wrote.{Carried, Wrote, buffers};
 
 use crate::fault::WriteFault;
+use least::cost::Cost;
 use least::step::Step;
 use part::limit::is_limit;
 use part::part::Part;
@@ -21,14 +22,18 @@ fn carry_out<P: Part>(
     steps: &mut [Step],
     data: &mut [u8],
     limit: usize,
-) -> Result<(usize, usize), WriteFault>
+) -> Result<Cost, WriteFault>
     requires idle { (allowed limit ≡ true) × (address + length bytes.now ≤ size (P.Part.meaning part.old).shape) × ((P.Part.meaning part.old).due ≡ 0) }
     requires byte { (i : ℕ) → slice_index bytes.now i < 256 }
     ensures { P.Part.intact part.old → Carried P.Part.meaning P.Part.trace P.Part.intact limit address bytes.now (buffers steps.old steps.new «data».old «data».new) part.old part.new result }
 {
-    let (cycles, sent) = plan(part, address, bytes, steps, data)?;
+    let cost = plan(part, address, bytes, steps, data)?;
+    let Cost {
+        cycles,
+        bytes: sent,
+    } = cost;
     run(part, &steps[..cycles], &data[..sent], limit)?;
-    Ok((cycles, sent))
+    Ok(cost)
 }
 
 // Writes bytes at an address at the least cost, and answers it: cycles and data bytes sent. The checks in their order: the
@@ -41,7 +46,7 @@ pub fn write<P: Part>(
     steps: &mut [Step],
     data: &mut [u8],
     limit: usize,
-) -> Result<(usize, usize), WriteFault>
+) -> Result<Cost, WriteFault>
     ensures { Wrote P.Part.meaning P.Part.trace P.Part.intact limit address bytes.now (buffers steps.old steps.new «data».old «data».new) part.old part.new result }
 {
     if !is_limit(limit) {
