@@ -51,15 +51,14 @@ either false p = (fewest_lawful 64).none_plus p
 
 pub erased_is :
     (m : Meaning) (a : ℕ) (b : List ℕ) (first count : ℕ) (presets : ℕ × ℕ) → presets ≡ on_from m a b first count
-    → fewest.plus (1 + presets.0, presets.1) (off_from m a b first count) ≡ erased_from m a b first count
+    → fewest.plus (fewest.plus (1, 0) presets) (off_from m a b first count) ≡ erased_from m a b first count
 erased_is m a b first count presets e =
     let L = fewest_lawful 64 in
-    ap (λ x. fewest.plus (1 + presets.0, x) (off_from m a b first count)) (sym (zero-add presets.1))
-    ∙ (L.plus_assoc (1, 0) presets (off_from m a b first count)
+    L.plus_assoc (1, 0) presets (off_from m a b first count)
     ∙ ap (λ x. fewest.plus (1, 0) x)
     (ap (λ x. fewest.plus x (off_from m a b first count)) e
     ∙ sum_both L count (λ j. preset_on m a b (first + j)) (λ j. preset_off m a b (first + j)) (λ j. preset m a b (first + j))
-    (λ j. either (touched a b (first + j)) (preset m a b (first + j)))))
+    (λ j. either (touched a b (first + j)) (preset m a b (first + j))))
 
 -- a limit, and a cost that was looked at only while below it
 module _ (limit cost : ℕ × ℕ) where

@@ -8,16 +8,17 @@ ghost use Rattle.planner.specs.Sending.{Sent, of_page};
 ghost use Rattle.least.specs.Steps.{address_of};
 
 use least::step::Step;
+use least::window::Run;
 use memory::kind::Kind;
 use memory::model::PAGE_BYTES;
 
 // The bytes of a window, which comes round at the page's end.
-fn send_bytes(data: &mut [u8], at: usize, page: &[u8], window: (usize, usize))
+fn send_bytes(data: &mut [u8], at: usize, page: &[u8], window: Run)
     requires { (length page.now ≡ 64) × (window.0 < 64) × (at + window.1 ≤ length «data».old) }
     ensures { «data».new ≡ sets «data».old at (bytes_from 64 page.now window.0 window.1) }
 {
-    for i in 0..window.1 {
-        data[at + i] = page[(window.0 + i % PAGE_BYTES) % PAGE_BYTES];
+    for i in 0..window.length {
+        data[at + i] = page[(window.start + i % PAGE_BYTES) % PAGE_BYTES];
     }
 }
 
@@ -29,27 +30,27 @@ pub(crate) fn put_page(
     kind: Kind,
     q: usize,
     page: &[u8],
-    window: Option<(usize, usize)>,
+    window: Option<Run>,
 ) -> (usize, usize)
     requires room { (of_page kind ≡ true) × (length page.now ≡ 64) × (q < 2 ^ 32) × (at.0 ≤ length steps.old) × (at.1 ≤ length «data».old) }
     requires start { IfSome window (λ w. w.0 < 64) }
     ensures sent { Sent (sending (cycle_of kind) 64 q page.now window) steps.old steps.new «data».old «data».new at result }
     ensures bound { (result.0 ≤ length steps.old) × (result.1 ≤ length «data».old) }
 {
-    let Some((start, length)) = window else {
+    let Some(run) = window else {
         return at;
     };
-    if at.0 >= steps.len() || length > data.len() - at.1 {
+    if at.0 >= steps.len() || run.length > data.len() - at.1 {
         return at;
     }
     steps[at.0] = Step {
         kind,
-        address: q * PAGE_BYTES + start,
-        length,
+        address: q * PAGE_BYTES + run.start,
+        length: run.length,
         place: at.1,
     };
-    send_bytes(data, at.1, page, (start, length));
-    (at.0 + 1, at.1 + length)
+    send_bytes(data, at.1, page, run);
+    (at.0 + 1, at.1 + run.length)
 }
 
 // An erase, which has no data.

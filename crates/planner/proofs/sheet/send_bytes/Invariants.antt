@@ -5,5 +5,5 @@ use Rattle.planner.proofs.sheet.send_bytes.Given as goal
 
 abbrev pub invariant-loop-i : goal.invariant-loop-i
 invariant-loop-i l =
-    sets l.data (l.at + l.i) (bytes_from 64 l.page (l.window.0 + l.i) (l.window.1 - l.i))
-    ≡ sets l.initial.data l.at (bytes_from 64 l.page l.window.0 l.window.1)
+    sets l.data (l.at + l.i) (bytes_from 64 l.page (l.window-inside.start + l.i) (l.window-inside.length - l.i))
+    ≡ sets l.initial.data l.at (bytes_from 64 l.page l.window-inside.start l.window-inside.length)
