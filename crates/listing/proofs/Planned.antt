@@ -11,6 +11,7 @@ use Rattle.port.specs.declared.instruction.Operation.TheVariants as of_operation
 use Rattle.port.specs.declared.instruction.Instruction.{Instruction}
 use Rattle.port.specs.Instructions.{table}
 use Rattle.port.specs.Build.{built, listed, carried_by}
+use Rattle.port.specs.Operations.{operation_of}
 use Rattle.port.proofs.Building.{length-built}
 use Rattle.least.specs.declared.step.Step.{Step}
 use Rattle.least.specs.Steps.{step_cycle, cycles_of, sent_by}
@@ -18,7 +19,7 @@ use Rattle.listing.specs.declared.plan_fault.PlanListingFault.{PlanListingFault}
 use Rattle.listing.specs.declared.plan_fault.PlanListingFault.TheVariants.{TextShort}
 use Rattle.listing.specs.Parts.{exchange}
 use Rattle.listing.specs.PlanFault.{lies, filled, unlisted, or_else, first_unlisted, checked}
-use Rattle.listing.specs.PlanFrames.{enabling, sending, plan_frames, operation_of, plan_text, answered}
+use Rattle.listing.specs.PlanFrames.{enabling, sending, plan_frames, plan_text, answered}
 use Rattle.listing.specs.declared.sheet.Sheet.{Sheet}
 use Rattle.listing.specs.Sheets.{Room, Wrote}
 use Rattle.listing.specs.Writing.{line_text, listing}
@@ -197,6 +198,15 @@ module _ (sent : List ℕ) (s : Step) (o : Operation) (bytes : List ℕ) (e : o 
       let g = ap₂ (λ x y. length (built x s.address y)) e b in
       let l = line-bytes (built o s.address bytes) (some_bytes o s.address bytes) in
       let t = step-size sent s in (omega arith, omega arith)
+
+-- the length of a step's lines, by the row of the table and the data
+pub step-lines : (sent : List ℕ) (s : Step) (i : Instruction) (o : Operation) (bytes : List ℕ) → unlisted sent s ≡ None → i ≡ listed o → o ≡ operation_of s.kind → bytes ≡ sent_by (step_cycle sent s)
+    → (length (plan_text sent (s ∷ [])) ≡ 3 + 3 * (1 + i.address + i.dummy + length bytes)) × (1 + i.address + i.dummy ≤ 4) × (length bytes ≤ 64)
+step-lines sent s i o bytes ok r e b =
+    let f = frame-size s.kind i s.address (block s.place s.length sent) (r ∙ ap listed e) in
+    let n = ap length b in
+    let m = sent_most sent s ok in
+    let t = step-size sent s in (omega arith, f.1, omega arith)
 
 -- what fits a buffer, and what does not
 pub answer-fits : (w : List ℕ) (n : ℕ) → length w ≤ n → answered None w n ≡ Ok (length w)

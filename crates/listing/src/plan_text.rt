@@ -4,7 +4,7 @@ ghost use Rattle.port.specs.Build.{built};
 ghost use Rattle.least.specs.Steps.{step_cycle, sent_by};
 ghost use Rattle.listing.specs.Parts.{exchange};
 ghost use Rattle.listing.specs.PlanFault.{unlisted, first_unlisted};
-ghost use Rattle.listing.specs.PlanFrames.{operation_of, plan_text};
+ghost use Rattle.listing.specs.PlanFrames.{plan_text};
 ghost use Rattle.listing.specs.Sheets.{Room, Wrote};
 ghost use Rattle.listing.specs.Writing.{line_text};
 
@@ -22,18 +22,6 @@ const LONGEST_FRAME: usize = 68;
 const ENABLE_LINE: usize = 3;
 
 const PAIR: usize = 3;
-
-fn operation_of(kind: Kind) -> Operation
-    ensures { result ≡ operation_of kind }
-{
-    match kind {
-        Kind::Program => Operation::Program,
-        Kind::Alter => Operation::Alter,
-        Kind::Preset => Operation::Preset,
-        Kind::SectorErase => Operation::SectorErase,
-        Kind::BulkErase => Operation::BulkErase,
-    }
-}
 
 // The data that a step sends: none for an erase.
 fn sent_by<'a>(step: &Step, data: &'a [u8]) -> &'a [u8]
@@ -54,7 +42,7 @@ fn step_len(step: &Step, data: &[u8]) -> usize
     ensures exact { result ≡ length (plan_text «data».now (step.now ∷ [])) }
     ensures most { result ≤ 207 }
 {
-    let row = Instruction::of(operation_of(step.kind));
+    let row = Instruction::of(Operation::from(step.kind));
     let head = 1 + row.address as usize + row.dummy as usize;
     ENABLE_LINE + PAIR * (head + sent_by(step, data).len())
 }
@@ -64,6 +52,7 @@ pub(crate) fn text_len(steps: &[Step], data: &[u8]) -> u128
     requires { first_unlisted «data».now steps.now ≡ None }
     ensures { result ≡ length (plan_text «data».now steps.now) }
 {
+    // By `map` and `sum` it was not proved that each call has a step that is listed, nor what the sum is.
     let mut needed: u128 = 0;
     for step in steps {
         needed += step_len(step, data) as u128;
@@ -106,7 +95,7 @@ fn put_step(step: &Step, data: &[u8], sheet: &mut Sheet)
 {
     put_frame(Operation::WriteEnable, 0, &[], sheet);
     let sent = sent_by(step, data);
-    put_frame(operation_of(step.kind), step.address, sent, sheet);
+    put_frame(step.kind.into(), step.address, sent, sheet);
 }
 
 // Writes the text of a plan.

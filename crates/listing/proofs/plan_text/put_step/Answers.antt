@@ -17,8 +17,8 @@ pub put_frame-requires-2 : goal.put_frame-requires-2
 put_frame-requires-2 c =
     let d = c.args.data.now in
     let s = c.args.step.now in
-    let b = built-size d s c.operation_of.result c.sent_by-sent.result.now c.operation_of.ensures c.sent_by-sent.ensures c.requires.listable in
-    let f = built_for d s c.operation_of.result c.sent_by-sent.result.now c.operation_of.ensures c.sent_by-sent.ensures in
+    let b = built-size d s c.into.result c.sent_by-sent.result.now c.into.ensures c.sent_by-sent.ensures c.requires.listable in
+    let f = built_for d s c.into.result c.sent_by-sent.result.now c.into.ensures c.sent_by-sent.ensures in
     let n = ap (λ x. length (line_text x)) f in
     let r = room_next (line_text (sending (step_cycle d s))) (step-text d s) c.requires.room c.put_frame.ensures in
     record { short = b.0; room = omega arith }
@@ -27,5 +27,5 @@ pub returns : goal.returns
 returns c =
     let d = c.args.data.now in
     let s = c.args.step.now in
-    let f = built_for d s c.operation_of.result c.sent_by-sent.result.now c.operation_of.ensures c.sent_by-sent.ensures in
+    let f = built_for d s c.into.result c.sent_by-sent.result.now c.into.ensures c.sent_by-sent.ensures in
     wrote_join (step-text d s) c.requires.room c.put_frame.ensures (wrote_is c.put_frame-2.ensures (ap line_text f))
