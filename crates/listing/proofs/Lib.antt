@@ -7,6 +7,7 @@ pub mod Complete
 pub mod Spelling
 pub mod Single
 pub mod Laying
+pub mod Sheets
 pub mod Answering
 pub mod Keeping
 pub mod Progress

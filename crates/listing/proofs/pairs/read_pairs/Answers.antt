@@ -1,4 +1,4 @@
-use Rattle.std.proofs.Common.{length}
+use Rattle.std.proofs.Common.{◌++◌, length, drop, ap}
 use Rattle.std.proofs.lemmas.Result.{err_from_is_err_and}
 use Rattle.listing.specs.Values.{values}
 use Rattle.listing.proofs.Answering.{broken-answer, short-answer, full_answer}
@@ -24,5 +24,6 @@ pub returns : goal.returns
 returns c =
     let t = c.args.pairs.now in
     let l = c.args.into.now in
-    let b = full_answer (values 0 t) c.in_ok-count.count l c.copy_values.new.into c.in_ok-count.ensures c.if-into-count.false c.copy_values.ensures in
+    let r = drop c.in_ok-count.count l in
+    let b = full_answer (values 0 t) c.in_ok-count.count l (c.copy_values.new.into ++ r) c.in_ok-count.ensures c.if-into-count.false (ap (λ y. y ++ r) c.copy_values.ensures) in
     record { answer = b.0; buffer = b.1; spelled = spelled t }
