@@ -1,38 +1,42 @@
-// Costs as (cycles, data bytes): fewer cycles first, then fewer bytes.
+// What a plan costs: cycles first, then data bytes.
 ghost use Rattle.std.specs.Prelude.{◌≡◌, not, ◌&&◌};
 ghost use Rattle.least.specs.Cost.{lesser};
 ghost use Rattle.least.specs.Fewest.{fewest, capped};
 
+// (cycles, data bytes), in the order of pairs. A rule of the project: costs pass as such pairs, from the window and the choice of
+// sectors up to the plan and its callers.
+pub type Cost = (usize, usize);
+
 // Whether `a` costs no more than `b`.
-pub fn at_most(a: (usize, usize), b: (usize, usize)) -> bool
+pub fn at_most(a: Cost, b: Cost) -> bool
     ensures { result ≡ fewest.leq a b }
 {
-    a.0 < b.0 || a.0 == b.0 && a.1 <= b.1
+    a <= b
 }
 
 // Both together. A count that would pass the largest `usize` stays there.
-pub fn added(a: (usize, usize), b: (usize, usize)) -> (usize, usize)
+pub fn added(a: Cost, b: Cost) -> Cost
     ensures { result ≡ capped (fewest.plus a b) }
 {
     (a.0.saturating_add(b.0), a.1.saturating_add(b.1))
 }
 
 // Whether a sector is erased before its pages are written: only where that is strictly lower.
-pub fn erases(keep: (usize, usize), erase: (usize, usize)) -> bool
+pub fn erases(keep: Cost, erase: Cost) -> bool
     ensures { result ≡ not (fewest.leq keep erase) }
 {
-    !at_most(keep, erase)
+    erase < keep
 }
 
 // What the sector then costs.
-pub fn sector_cost(keep: (usize, usize), erase: (usize, usize)) -> (usize, usize)
+pub fn sector_cost(keep: Cost, erase: Cost) -> Cost
     ensures { result ≡ lesser fewest keep erase }
 {
-    if erases(keep, erase) { erase } else { keep }
+    keep.min(erase)
 }
 
 // Whether the whole memory is erased first: only where no sector is protected and that is strictly lower.
-pub fn erases_all(free: bool, sectors: (usize, usize), bulk: (usize, usize)) -> bool
+pub fn erases_all(free: bool, sectors: Cost, bulk: Cost) -> bool
     ensures { result ≡ (free && not (fewest.leq sectors bulk)) }
 {
     free && erases(sectors, bulk)

@@ -11,3 +11,13 @@ pub struct Step {
     pub length: usize,
     pub place: usize,
 }
+
+impl Step {
+    // What a list of steps holds before a plan is put into it.
+    pub const UNUSED: Step = Step {
+        kind: Kind::BulkErase,
+        address: 0,
+        length: 0,
+        place: 0,
+    };
+}

@@ -12,14 +12,11 @@ ghost use Rattle.planner.specs.Choice.{Chosen};
 use crate::chosen::{Choice, MOST_SECTORS};
 use crate::overlay::Write;
 use crate::survey::{erase_costs, touched_costs};
+use least::cost::Cost;
 use part::part::Part;
 
 // Whether sector k is erased first, what it then costs, and what the presets of its touched pages cost.
-fn sector_cost<P: Part>(
-    part: &mut P,
-    write: Write<'_>,
-    k: usize,
-) -> (bool, (usize, usize), (usize, usize))
+fn sector_cost<P: Part>(part: &mut P, write: Write<'_>, k: usize) -> (bool, Cost, Cost)
     requires { Fitting (P.Part.meaning part.old) write.address write.bytes.now × (k < (P.Part.meaning part.old).shape.sectors) }
     ensures looked { LookedBy P.Part.meaning P.Part.trace P.Part.intact (64 * (P.Part.meaning part.old).shape.pages) part.old part.new }
     ensures bound { (result.1.0 ≤ 2049) × (result.1.1 ≤ 131072) }
@@ -38,11 +35,7 @@ fn sector_cost<P: Part>(
 }
 
 // What the sectors cost together, and the presets of all touched pages. Marks the sectors that are erased first.
-fn sector_costs<P: Part>(
-    part: &mut P,
-    write: Write<'_>,
-    erased: &mut [bool],
-) -> ((usize, usize), (usize, usize))
+fn sector_costs<P: Part>(part: &mut P, write: Write<'_>, erased: &mut [bool]) -> (Cost, Cost)
     requires { Fitting (P.Part.meaning part.old) write.address write.bytes.now × (length erased.old ≡ 128) }
     ensures looked { LookedBy P.Part.meaning P.Part.trace P.Part.intact (whole (P.Part.meaning part.old)) part.old part.new }
     ensures bound { (result.1.0 ≤ 262144) × (result.1.1 ≤ 16777216) }
@@ -51,8 +44,8 @@ fn sector_costs<P: Part>(
     ensures marks { P.Part.intact part.old → (k : ℕ) → k < (P.Part.meaning part.old).shape.sectors → slice_index_or erased.new k false ≡ erases (P.Part.meaning part.old) write.entry.address write.entry.bytes.now k }
 {
     let sectors = part.sectors();
-    let mut cost: (usize, usize) = (0, 0);
-    let mut presets: (usize, usize) = (0, 0);
+    let mut cost: Cost = (0, 0);
+    let mut presets: Cost = (0, 0);
     for k in 0..sectors {
         let (first, sector, touched) = sector_cost(part, write, k);
         erased[k] = first;
@@ -74,12 +67,7 @@ fn is_free<P: Part>(part: &P) -> bool
 }
 
 // A bulk erase and then presets, if it is accepted and below what the sectors cost, from the presets of the touched pages.
-fn bulk_cost<P: Part>(
-    part: &mut P,
-    write: Write<'_>,
-    presets: (usize, usize),
-    limit: (usize, usize),
-) -> Option<(usize, usize)>
+fn bulk_cost<P: Part>(part: &mut P, write: Write<'_>, presets: Cost, limit: Cost) -> Option<Cost>
     requires fitting { Fitting (P.Part.meaning part.old) write.address write.bytes.now }
     requires presets_bound { (presets.0 ≤ 262144) × (presets.1 ≤ 16777216) }
     ensures looked { LookedBy P.Part.meaning P.Part.trace P.Part.intact (for_bulk (P.Part.meaning part.old)) part.old part.new }

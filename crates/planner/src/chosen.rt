@@ -1,5 +1,7 @@
 // What was chosen for a write.
 
+use least::cost::Cost;
+
 pub const MOST_SECTORS: usize = 128;
 
 #[derive(Clone, Copy)]
@@ -8,5 +10,5 @@ pub struct Choice {
     pub bulk: bool,
     // else, whether each sector is
     pub erased: [bool; MOST_SECTORS],
-    pub cost: (usize, usize),
+    pub cost: Cost,
 }

@@ -1,5 +1,7 @@
 // Why a write is not planned. specs/Call.antt gives each case its layer, number and values.
 
+use least::cost::Cost;
+
 #[derive(Clone, Copy, PartialEq, Eq, Debug)]
 pub enum PlanFault {
     // the bytes from the address on end past the memory's end
@@ -9,7 +11,7 @@ pub enum PlanFault {
     // the lowest byte of a protected sector that would have to change
     Protected(usize),
     // the step list has no room for a plan of this cost
-    StepsShort((usize, usize)),
+    StepsShort(Cost),
     // the data buffer has none
-    DataShort((usize, usize)),
+    DataShort(Cost),
 }

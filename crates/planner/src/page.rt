@@ -4,11 +4,12 @@ ghost use Rattle.least.specs.Fewest.{fewest};
 ghost use Rattle.least.specs.Window.{window};
 ghost use Rattle.least.specs.Plan.{lowers, window_cost};
 
+use least::cost::Cost;
 use least::window::window;
 use memory::model::PAGE_BYTES;
 
 // The cost of one page cycle at most.
-pub(crate) fn page_cost(old: &[u8], new: &[u8]) -> (usize, usize)
+pub(crate) fn page_cost(old: &[u8], new: &[u8]) -> Cost
     requires { (length old.now ≡ 64) × (length new.now ≡ 64) }
     ensures value { result ≡ window_cost fewest (window 64 old.now new.now) }
     ensures bound { (result.0 ≤ 1) × (result.1 ≤ 64) }

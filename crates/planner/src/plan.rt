@@ -12,6 +12,7 @@ use crate::choice::choose;
 use crate::emit::put_plan;
 use crate::fault::PlanFault;
 use crate::overlay::Write;
+use least::cost::Cost;
 use least::step::Step;
 use part::part::Part;
 use part::size::{is_inside, size_of};
@@ -22,7 +23,7 @@ fn plan_inside<P: Part>(
     write: Write<'_>,
     steps: &mut [Step],
     data: &mut [u8],
-) -> Result<(usize, usize), PlanFault>
+) -> Result<Cost, PlanFault>
     requires fitting { Fitting (P.Part.meaning part.old) write.address write.bytes.now }
     requires byte { (i : ℕ) → slice_index write.bytes.now i < 256 }
     ensures looked { LookedBy P.Part.meaning P.Part.trace P.Part.intact (3 * whole (P.Part.meaning part.old)) part.old part.new }
@@ -61,7 +62,7 @@ pub fn plan<P: Part>(
     bytes: &[u8],
     steps: &mut [Step],
     data: &mut [u8],
-) -> Result<(usize, usize), PlanFault>
+) -> Result<Cost, PlanFault>
     ensures looked { Looked P.Part.meaning P.Part.trace P.Part.intact part.old part.new }
     ensures asked { LookedBy P.Part.meaning P.Part.trace P.Part.intact (3 * size (P.Part.meaning part.old).shape) part.old part.new }
     ensures outside { nat_le (address + length bytes.now) (size (P.Part.meaning part.old).shape) ≡ false → result ≡ Err (Outside address) }

@@ -8,11 +8,11 @@ ghost use Rattle.planner.specs.Survey.{below, erased_from, kept, kept_from, on_f
 use crate::look::{both_pages, read_page, touches};
 use crate::overlay::Write;
 use crate::page::{blank, page_cost};
-use least::cost::at_most;
+use least::cost::{Cost, at_most};
 use part::part::Part;
 
 // Page q as it stands, and once erased if the write touches it: a page that it does not touch costs nothing to keep.
-fn page_costs<P: Part>(part: &mut P, write: Write<'_>, q: usize) -> ((usize, usize), (usize, usize))
+fn page_costs<P: Part>(part: &mut P, write: Write<'_>, q: usize) -> (Cost, Cost)
     requires { Fitting (P.Part.meaning part.old) write.address write.bytes.now × Readable (P.Part.meaning part.old) q }
     ensures looked { LookedBy P.Part.meaning P.Part.trace P.Part.intact (if touched write.entry.address write.entry.bytes.now q then 64 else 0) part.old part.new }
     ensures keeping { (result.0.0 ≤ 1) × (result.0.1 ≤ 64) }
@@ -29,7 +29,7 @@ fn page_costs<P: Part>(part: &mut P, write: Write<'_>, q: usize) -> ((usize, usi
 }
 
 // Page q once erased, if the write does not touch it.
-fn rest_cost<P: Part>(part: &mut P, write: Write<'_>, q: usize) -> (usize, usize)
+fn rest_cost<P: Part>(part: &mut P, write: Write<'_>, q: usize) -> Cost
     requires { Fitting (P.Part.meaning part.old) write.address write.bytes.now × Readable (P.Part.meaning part.old) q }
     ensures looked { LookedBy P.Part.meaning P.Part.trace P.Part.intact (if touched write.entry.address write.entry.bytes.now q then 0 else 64) part.old part.new }
     ensures bound { (result.0 ≤ 1) × (result.1 ≤ 64) }
@@ -49,7 +49,7 @@ pub(crate) fn touched_costs<P: Part>(
     write: Write<'_>,
     first: usize,
     count: usize,
-) -> ((usize, usize), (usize, usize))
+) -> (Cost, Cost)
     requires fitting { Fitting (P.Part.meaning part.old) write.address write.bytes.now }
     requires count_bound { first + count ≤ (P.Part.meaning part.old).shape.sectors * (P.Part.meaning part.old).shape.pages }
     ensures looked { LookedBy P.Part.meaning P.Part.trace P.Part.intact (bytes_on write.entry.address write.entry.bytes.now first count) part.old part.new }
@@ -59,8 +59,8 @@ pub(crate) fn touched_costs<P: Part>(
     ensures kept { P.Part.intact part.old → result.0 ≡ kept_from (P.Part.meaning part.old) write.entry.address write.entry.bytes.now first count }
     ensures presets { P.Part.intact part.old → result.1 ≡ on_from (P.Part.meaning part.old) write.entry.address write.entry.bytes.now first count }
 {
-    let mut keep: (usize, usize) = (0, 0);
-    let mut presets: (usize, usize) = (0, 0);
+    let mut keep: Cost = (0, 0);
+    let mut presets: Cost = (0, 0);
     for j in 0..count {
         let (kept, preset) = page_costs(part, write, first + j);
         keep = (keep.0 + kept.0, keep.1 + kept.1);
@@ -76,9 +76,9 @@ pub(crate) fn erase_costs<P: Part>(
     write: Write<'_>,
     first: usize,
     count: usize,
-    presets: (usize, usize),
-    limit: (usize, usize),
-) -> Option<(usize, usize)>
+    presets: Cost,
+    limit: Cost,
+) -> Option<Cost>
     requires fitting { Fitting (P.Part.meaning part.old) write.address write.bytes.now }
     requires count_bound { first + count ≤ (P.Part.meaning part.old).shape.sectors * (P.Part.meaning part.old).shape.pages }
     requires presets_bound { (presets.0 ≤ 262144) × (presets.1 ≤ 16777216) }
