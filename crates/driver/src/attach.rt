@@ -34,26 +34,38 @@ fn learn<P: Port>(port: &mut P) -> Outline
     }
 }
 
+// Why there is no driver, and the port handed back.
+#[derive(Drop)]
+pub struct Unattached<P> {
+    pub fault: AttachFault,
+    pub port: P,
+}
+
 // A driver of the chip behind the port, once the chip is idle. The port is handed back where the limit of polls is
 // not 1 to 4,096, and where the chip is still busy after that many.
-pub fn attach<P: Port>(mut port: P, limit: usize) -> Result<Driver<P>, (AttachFault, P)>
+pub fn attach<P: Port>(mut port: P, limit: usize) -> Result<Driver<P>, Unattached<P>>
     ensures { MatchResult result
         (λ d. (unattached limit (P.Port.chip port).busy ≡ None)
-        × Intact d.outline (P.Port.chip d.port)
         × (d.outline.busy ≡ false)
         × (P.Port.chip d.port ≡ rested (P.Port.chip port))
         × P.Port.trace port d.port (attach_frames (P.Port.chip port).busy))
-        (λ e. (unattached limit (P.Port.chip port).busy ≡ Some e.0)
-        × elim e.0 [
-          | Limit n ↦ e.1 ≡ port
-          | Busy n ↦ (P.Port.chip e.1 ≡ lowered limit (P.Port.chip port)) × P.Port.trace port e.1 (replicate limit status_frame)
+        (λ u. (unattached limit (P.Port.chip port).busy ≡ Some u.fault)
+        × elim u.fault [
+          | Limit n ↦ u.port ≡ port
+          | Busy n ↦ (P.Port.chip u.port ≡ lowered limit (P.Port.chip port)) × P.Port.trace port u.port (replicate limit status_frame)
         ]) }
 {
     if limit == 0 || limit > MOST_POLLS {
-        return Err((AttachFault::Limit(limit), port));
+        return Err(Unattached {
+            fault: AttachFault::Limit(limit),
+            port,
+        });
     }
     if !wait(&mut port, limit) {
-        return Err((AttachFault::Busy(limit), port));
+        return Err(Unattached {
+            fault: AttachFault::Busy(limit),
+            port,
+        });
     }
     let outline = learn(&mut port);
     Ok(Driver { port, outline })

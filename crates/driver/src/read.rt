@@ -18,8 +18,7 @@ pub(crate) fn read<P: Port>(port: &mut P, address: usize, into: &mut [u8])
     ensures trace { P.Port.trace port.old port.new (reads (P.Port.longest port.old - 4) address (length into.old)) }
 {
     let room = port.longest_frame() - READ_HEAD;
-    let mut done = 0;
-    while done < into.len() {
+    for done in (0..into.len()).step_by(room) {
         let n = room.min(into.len() - done);
         ask(
             port,
@@ -28,6 +27,5 @@ pub(crate) fn read<P: Port>(port: &mut P, address: usize, into: &mut [u8])
             &[],
             &mut into[done..done + n],
         );
-        done += n;
     }
 }

@@ -1,7 +1,6 @@
 // The fence.
 
-// The most sectors that a part has.
-pub const MOST_SECTORS: usize = 128;
+pub use memory::geometry::MOST_SECTORS;
 
 // A part, and which of its sectors are closed. It means the part with the closed sectors added to the protected ones.
 #[derive(Drop)]

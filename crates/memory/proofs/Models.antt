@@ -23,13 +23,13 @@ found_passes test (x ∷ ms) c m t e = go (cases_Bool (eqb x.capacity c)) (λ f.
         mathlib.Core.Path.subst (λ (y : Model). test y ≡ true) s (and_parts _ _ t).0
     go (inr b) ih = ih (sym (cond-false _ (Some x) (lookup ms c) b) ∙ e)
 
-pub models_ranged : (c : ℕ) (m : Model) → lookup models c ≡ Some m → in_range m.sectors m.pages ≡ true
+pub models_ranged : (c : ℕ) (m : Model) → lookup models c ≡ Some m → in_range m.geometry.sectors m.geometry.pages ≡ true
 unfolding models
-models_ranged c m e = found_passes (λ x. in_range x.sectors x.pages) models c m refl e
+models_ranged c m e = found_passes (λ x. in_range x.geometry.sectors x.geometry.pages) models c m refl e
 
 -- so an image of a known chip fails by its length alone
 pub models-unmade : (c : ℕ) (m : Model) (n : ℕ) → lookup models c ≡ Some m
-    → unmade m.sectors m.pages n ≡ cond (eqb n (size (model_shape m))) None (Some Length)
+    → unmade m.geometry.sectors m.geometry.pages n ≡ cond (eqb n (size (model_shape m))) None (Some Length)
 models-unmade c m n e = cond-true _ _ _ (models_ranged c m e)
 
 -- whatever the capacity byte, a page is 64 bytes
@@ -40,7 +40,7 @@ bytes-or (Some m) = refl
 pub page-bytes : (c : ℕ) → (shape_for c).bytes ≡ 64
 page-bytes c = bytes-or (lookup models c)
 
-range_or : (o : Option Model) → ((m : Model) → o ≡ Some m → in_range m.sectors m.pages ≡ true) → is_some o ≡ true
+range_or : (o : Option Model) → ((m : Model) → o ≡ Some m → in_range m.geometry.sectors m.geometry.pages ≡ true) → is_some o ≡ true
     → in_range (shape_or o).sectors (shape_or o).pages ≡ true
 range_or None h t = let z : ◌≡◌ {A = ℕ} 0 1 = cc in absurd (omega native.Mathlib.Omega.arith)
 range_or (Some m) h t = h m refl

@@ -4,7 +4,7 @@ ghost use Rattle.memory.specs.Page.{put};
 ghost use Rattle.port.specs.declared.fault.PortFault.TheVariants.{TooLong};
 ghost use Rattle.port.specs.Build.{Understood, built, carried_by, headed, high_first, listed, place};
 
-use crate::fault::PortFault;
+use crate::fault::{PortFault, check_length};
 use crate::instruction::{Instruction, Operation, TABLE};
 use memory::bytes::fill;
 
@@ -69,9 +69,7 @@ pub fn build(
     let row = Instruction::of(operation);
     let head = 1 + row.address as usize + row.dummy as usize;
     let n = carried(row.carries, data);
-    if head > into.len() || n > into.len() - head {
-        return Err(PortFault::TooLong(into.len()));
-    }
+    check_length(into.len(), head, n)?;
     lay_out(row, address, &data[0..n], into);
     Ok(head + n)
 }

@@ -4,7 +4,7 @@ ghost use Rattle.std.proofs.Common.{◌∙◌, rules};
 ghost use Rattle.port.specs.Bus.{OnSide, by_side};
 ghost use Rattle.port.specs.Sides.{on_side};
 
-use crate::fault::PortFault;
+use crate::fault::{PortFault, check_length};
 use crate::port::Port;
 
 #[derive(Clone, Copy, PartialEq, Eq, Debug)]
@@ -67,10 +67,7 @@ impl<L: Port, R: Port> Port for Bus<L, R> {
     }
 
     fn exchange(&mut self, sent: &[u8], back: &mut [u8]) -> Result<(), PortFault> {
-        let longest = self.longest_frame();
-        if sent.len() > longest || back.len() > longest - sent.len() {
-            return Err(PortFault::TooLong(longest));
-        }
+        check_length(self.longest_frame(), sent.len(), back.len())?;
         match self.chosen {
             Side::First => self.first.exchange(sent, back),
             Side::Second => self.second.exchange(sent, back),

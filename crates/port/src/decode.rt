@@ -35,13 +35,12 @@ fn mean<'a>(operation: Operation, address: usize, data: &'a [u8]) -> Order<'a>
 fn shape<'a>(code: u8, after: usize, wanted: usize, address: usize, data: &'a [u8]) -> Order<'a>
     ensures { said result ≡ shaped_by (lookup table code) after wanted address «data».now }
 {
-    let Some(instruction) = Instruction::find(code) else {
-        return Order::Unknown;
-    };
-    if !instruction.fits(after, wanted) {
-        return Order::Unknown;
+    match Instruction::find(code) {
+        Some(instruction) if instruction.fits(after, wanted) => {
+            mean(instruction.operation, address, data)
+        }
+        _ => Order::Unknown,
     }
-    mean(instruction.operation, address, data)
 }
 
 // What a frame asks, if so many bytes are wanted back.

@@ -29,19 +29,5 @@ invariant_of-result g c =
       byte = omega (arith, c.status-byte.type_inv);
     }
 
-pub returns : goal.returns
-returns g c =
-    let chip : Chip = g.P.Port.chip c.args.port.now in
-    let mid = c.capacity.ensures.chip in
-    let sound = (g.met.P.Port.sound c.args.port.now).0 in
-    let known = c.capacity.ensures.byte c.requires in
-    record {
-      learnt = record {
-        shape = ap (λ x. shape_or (lookup models x)) (sym known) ∙ ap shape_or (sym c.in-Some.ensures);
-        status = sym (bits c.status-byte.result chip sound.steady c.requires (c.status-byte.ensures.byte ∙ ap (shown c.status-byte.result) mid));
-        idle = λ _. c.requires;
-      };
-      idle = refl;
-      chip = c.status-byte.ensures.chip ∙ ap waited mid ∙ waited-idle chip c.requires;
-      trace = g.met.P.Port.joins _ _ _ _ _ c.capacity.ensures.trace c.status-byte.ensures.trace;
-    }
+pub returns-clause-trace : goal.returns-clause-trace
+returns-clause-trace g c = g.met.P.Port.joins _ _ _ _ _ c.capacity.ensures.trace c.status-byte.ensures.trace

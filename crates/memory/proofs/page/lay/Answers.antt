@@ -1,4 +1,4 @@
-use Rattle.std.proofs.Common.{◌≡◌, ◌+◌, ◌%◌, [], map, length, Some, sym, ap, ◌∙◌, arith, length-set}
+use Rattle.std.proofs.Common.{◌≡◌, ◌+◌, [], map, length, Some, sym, ap, ◌∙◌, arith, length-set}
 use Rattle.std.proofs.lemmas.List.{at_drop_all}
 use Rattle.memory.specs.Page.{laid, cover}
 use Rattle.memory.proofs.Loops.{cover-laid, length-cover_none, laid_more}
@@ -15,7 +15,6 @@ loop-i-init c =
 
 pub loop-i-preserved : goal.loop-i-preserved
 loop-i-preserved c =
-    let h : (c.args.at + c.loop-i.i % 64) % 64 ≡ (c.args.at + c.loop-i.i) % 64 = omega arith in
     let e = laid_more 64 c.loop-i.places c.args.at c.loop-i.i c.args.sent.now (omega arith) in
     (length-set c.loop-i.places _ _ ∙ c.loop-i.invariant.0, (cc))
 

@@ -1,7 +1,7 @@
 use Rattle.std.proofs.Common.{◌≡◌, ℕ, ◌+◌, ◌++◌, take, drop, get_or, set, None, sym, ap, ◌∙◌, arith}
 use Rattle.memory.specs.Image.{rule}
 use Rattle.memory.specs.Page.{joint, merged}
-use Rattle.memory.proofs.Loops.{merged_more, merged_none, set_same}
+use Rattle.memory.proofs.Loops.{merged_more, merged_none}
 use Rattle.memory.proofs.page.merge.Goals as goal
 use Rattle.memory.proofs.page.merge.Goals.{in-Some, in_default}
 
@@ -19,7 +19,7 @@ loop-i-preserved c =
     let f = rule c.args.kind in
     elim c.match-sent-i.branch [
       | in-Some w ↦ step c w.left.result (w.left.ensures ∙ ap (joint f old) (sym w.in-Some.is)) w.bytes-is
-      | in_default w ↦ step c old (ap (joint f old) (sym w.in_default.is)) (w.bytes-is ∙ sym (set_same c.loop-i.bytes c.loop-i.i))
+      | in_default w ↦ step c old (ap (joint f old) (sym w.in_default.is)) w.bytes-is
     ]
 
 pub returns : goal.returns

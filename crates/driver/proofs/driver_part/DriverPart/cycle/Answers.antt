@@ -13,8 +13,8 @@ use Rattle.part.proofs.Refusals.{Passes, outlines_cycle, refused_early, soiled, 
 use Rattle.driver.specs.Frames.{looks, enable_frame, cycle_frame}
 use Rattle.driver.specs.Driving.{Intact, seen}
 use Rattle.driver.specs.Sending.{sendable, looks_carry, looks-harmless, looks_no_status}
-use Rattle.driver.specs.Seeing.{seen_outline, seen-image, chip_long}
-use Rattle.driver.specs.Driven.{drives_none, drives_quiet, drives_cycle, cycle-image, looked, with_busy}
+use Rattle.driver.specs.Seeing.{seen_outline, chip_long}
+use Rattle.driver.specs.Driven.{drives_none, drives_quiet, drives_cycle, cycle-image, cycle-intact, looked, with_busy}
 use Rattle.driver.proofs.driver_part.DriverPart.cycle.Goals as goal
 
 -- the checks before the page, as the outline and as the meaning has them
@@ -27,16 +27,12 @@ unrefused : (o : Outline) (c : Chip) (kind : Kind) (a n : ℕ) → None ≡ refu
 unrefused o c kind a n v = sym (v ∙ outlines_cycle o (seen o c) kind a n (seen_outline o c))
 
 -- whether the page is clean, as the meaning has it
-cleanly : (o : Outline) (c : Chip) (kind : Kind) (a n : ℕ) (r : Bool) → of_chip.Sound c → None ≡ refusal (outlined o) (guarding o) (not o.busy) true kind a n
+cleanly : (o : Outline) (c : Chip) (kind : Kind) (a n : ℕ) (r : Bool) → of_chip.Sound c → Intact o c → None ≡ refusal (outlined o) (guarding o) (not o.busy) true kind a n
     → r ≡ presets kind r → (c.busy ≡ 0 → a / 64 * 64 + 64 ≤ length c.image → r ≡ presets kind (blank (page 64 (a / 64) c.image)))
-    → Intact o c → r ≡ presets kind (blank (page 64 (a / 64) c.image))
-cleanly o c kind a n r sound v others clean i =
+    → r ≡ presets kind (clean_at (seen o c) a)
+cleanly o c kind a n r sound i v others clean =
     let p = passes o kind a n v in
     looked o kind a (length c.image) r (blank (page 64 (a / 64) c.image)) (chip_long o c sound i) p.inside others (clean (i.idle (not-true _ p.idle)))
-
-seen_clean : (o : Outline) (c : Chip) (kind : Kind) (a : ℕ) (r : Bool) → of_chip.Sound c → Intact o c → r ≡ presets kind (blank (page 64 (a / 64) c.image))
-    → presets kind (clean_at (seen o c) a) ≡ r
-seen_clean o c kind a r sound i e = ap (λ x. presets kind (blank (page 64 (a / 64) x))) (seen-image o c sound i) ∙ sym e
 
 pub is_clean_for-requires : goal.is_clean_for-requires
 is_clean_for-requires g c =
@@ -49,6 +45,25 @@ send-requires g c =
     let o : Outline = c.args.self.now.outline in
     let p = passes o c.args.kind c.args.address (length c.args.data.now) c.in_default.ensures.value in
     sendable o c.args.kind c.args.address (length c.args.data.now) p.inside p.fills
+
+pub invariant_of-self-3 : goal.invariant_of-self-3
+invariant_of-self-3 g c =
+    let o : Outline = c.args.self.now.outline in
+    let port = c.args.self.now.port in
+    let chip : Chip = g.P.Port.chip port in
+    let kind : Kind = c.args.kind in
+    let a : ℕ = c.args.address in
+    let sent : List ℕ = c.args.data.now in
+    let sound = (g.met.P.Port.sound port).0 in
+    let u = c.in_default.ensures.value in
+    let p = passes o kind a (length sent) u in
+    let q = c.if-not-is_clean_for.ensures in
+    let i = c.args.self.now.intact in
+    let last : Chip = g.P.Port.chip c.send.new.port in
+    let e : last ≡ after last.busy (after 0 chip enable_frame) (cycle_frame kind a sent) =
+    c.send.ensures.chip ∙ ap (λ x. after last.busy (after 0 x enable_frame) (cycle_frame kind a sent)) c.is_clean_for.ensures.chip in
+    record { intact = cycle-intact o _ chip last 0 kind a sent sound i refl refl refl (not-true _ p.idle) p.inside p.fills p.permits
+      (sym (cleanly o chip kind a (length sent) true sound i u q.others q.clean)) e }
 
 pub returns-in-Some : goal.returns-in-Some
 returns-in-Some g c =
@@ -66,7 +81,7 @@ returns-in-Some g c =
       image = λ _ e. absurd (false≢true e);
       due = λ e. absurd (false≢true e);
       trace = ([], g.met.P.Port.stays c.args.self.now.port, drives_none o chip);
-      intact = λ i. i;
+      intact = λ _. tt;
     }
 
 pub returns-then-not-is_clean_for : goal.returns-then-not-is_clean_for
@@ -89,14 +104,14 @@ returns-then-not-is_clean_for g c =
     let d = drives_quiet o chip (g.P.Port.chip c.is_clean_for.new.port) (looks room kind a) [] e (looks_carry room kind a chip s) (looks-harmless room kind a chip s) (looks_no_status room kind a s) refl refl in
     record {
       result = ap told (sym (soiled m.shape (protected_at m) (idle m) kind a n false v (sym q.others)));
-      verdict = λ i. ap told (sym (soiled m.shape (protected_at m) (idle m) kind a n (clean_at m a) v (seen_clean o chip kind a false sound i (cleanly o chip kind a n false sound u q.others q.clean i))));
+      verdict = λ _. ap told (sym (soiled m.shape (protected_at m) (idle m) kind a n (clean_at m a) v (sym (cleanly o chip kind a n false sound c.args.self.now.intact u q.others q.clean))));
       shape = refl;
       guarded = refl;
       undone = λ _. ap (seen o) e;
       image = λ _ f. absurd (false≢true f);
       due = λ f. absurd (false≢true f);
       trace = (looks room kind a, c.is_clean_for.ensures.trace, d);
-      intact = d.intact;
+      intact = λ _. tt;
     }
 
 pub returns : goal.returns
@@ -118,16 +133,17 @@ returns g c =
     let last : Chip = g.P.Port.chip c.send.new.port in
     let e : last ≡ after last.busy (after 0 chip enable_frame) (cycle_frame kind a sent) =
     c.send.ensures.chip ∙ ap (λ x. after last.busy (after 0 x enable_frame) (cycle_frame kind a sent)) c.is_clean_for.ensures.chip in
-    let clean : Intact o chip → presets kind (blank (page 64 (a / 64) chip.image)) ≡ true = λ i. sym (cleanly o chip kind a n true sound u q.others q.clean i) in
-    let d = drives_cycle o _ chip last room kind a sent sound refl refl refl (not-true _ p.idle) p.inside p.fills p.permits clean e in
+    let i = c.args.self.now.intact in
+    let clean : presets kind (clean_at m a) ≡ true = sym (cleanly o chip kind a n true sound i u q.others q.clean) in
+    let d = drives_cycle o _ chip last room kind a sent sound i refl refl refl (not-true _ p.idle) p.inside p.fills p.permits clean e in
     record {
       result = ap told (sym v);
-      verdict = λ i. ap told (sym (done_all m.shape (protected_at m) (idle m) kind a n (clean_at m a) v (seen_clean o chip kind a true sound i (sym (clean i)))));
+      verdict = λ _. ap told (sym (done_all m.shape (protected_at m) (idle m) kind a n (clean_at m a) v clean));
       shape = refl;
       guarded = refl;
       undone = λ f. absurd (true≢false f);
-      image = λ i _. cycle-image o (with_busy true o) chip last room kind a sent sound refl refl refl (not-true _ p.idle) p.inside p.fills p.permits clean e (g.met.P.Port.sound c.send.new.port).0 i;
+      image = λ _ _. cycle-image o (with_busy true o) chip last room kind a sent sound i refl refl refl (not-true _ p.idle) p.inside p.fills p.permits clean e;
       due = λ _. omega arith;
       trace = (looks room kind a ++ (enable_frame ∷ cycle_frame kind a sent ∷ []), g.met.P.Port.joins _ _ _ _ _ c.is_clean_for.ensures.trace c.send.ensures.trace, d);
-      intact = d.intact;
+      intact = λ _. tt;
     }

@@ -10,7 +10,7 @@ use Rattle.part.proofs.Refusals.{outlines_read, read-inside}
 use Rattle.driver.specs.Driving.{seen}
 use Rattle.driver.specs.Frames.{reads}
 use Rattle.driver.specs.Reading.{reads_carry, reads-harmless, reads_no_status}
-use Rattle.driver.specs.Seeing.{seen_outline, seen-image, chip_long}
+use Rattle.driver.specs.Seeing.{seen_outline, chip_long}
 use Rattle.driver.specs.Driven.{drives_none, drives_quiet}
 use Rattle.driver.proofs.driver_part.DriverPart.read.Goals as goal
 
@@ -34,7 +34,7 @@ returns-in-Some g c =
       unread = λ _. refl;
       bytes = λ _ e. absurd (false≢true e);
       trace = ([], g.met.P.Port.stays c.args.self.now.port, drives_none o chip);
-      intact = λ i. i;
+      intact = λ _. tt;
     }
 
 pub returns : goal.returns
@@ -51,14 +51,14 @@ returns g c =
     let few = small o a n within.0 in
     let e = c.read.ensures.chip in
     let d = drives_quiet o chip (g.P.Port.chip c.read.new.port) (reads room a n) (asked n ∷ []) e (reads_carry room a n chip few) (reads-harmless room a n chip few) (reads_no_status room a n few) refl refl in
+    let i = c.args.self.now.intact in
+    let long = chip_long o chip sound i in
+    let idle = i.idle (Rattle.std.proofs.lemmas.Bool.not-true _ within.1) in
     record {
       result = ap told w;
       same = ap (seen o) e;
       unread = λ f. absurd (true≢false f);
-      bytes = λ i _.
-          let long = chip_long o chip sound i in
-          let idle = i.idle (Rattle.std.proofs.lemmas.Bool.not-true _ within.1) in
-          c.read.ensures.bytes idle (omega (arith, within.0)) ∙ sym (ap (λ x. block a n x) (seen-image o chip sound i));
+      bytes = λ _ _. c.read.ensures.bytes idle (omega (arith, within.0));
       trace = (reads room a n, c.read.ensures.trace, d);
-      intact = d.intact;
+      intact = λ _. tt;
     }

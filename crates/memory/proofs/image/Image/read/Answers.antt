@@ -5,4 +5,4 @@ use Rattle.memory.proofs.image.Image.read.Goals as goal
 pub roll-requires : goal.roll-requires
 roll-requires c =
     let i = c.args.self.now in
-    let p = product_some i.sectors i.pages i.some i.paged in omega (arith, c.deref.ensures.len)
+    let p = product_some i.geometry.sectors i.geometry.pages i.geometry.some i.geometry.paged in omega (arith, c.deref.ensures.len)

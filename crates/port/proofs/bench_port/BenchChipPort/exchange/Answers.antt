@@ -12,7 +12,7 @@ returns c =
     let d = chip_of c.transfer.new.self in
     record {
       result = c.transfer.ensures.result;
-      back = shows_if t (chip_of b) f c.transfer.new.back c.args.back.now b.steady c.transfer.ensures.back;
+      back = shows_if t (chip_of b) f c.transfer.new.back c.args.back.now b.status.steady c.transfer.ensures.back;
       chip = settles_if t b.number (chip_of b) d f c.transfer.ensures.chip;
       longest = refl;
       trace = (runs_if t b.number (chip_of b) d f c.transfer.ensures.chip, sym c.transfer.ensures.number);
