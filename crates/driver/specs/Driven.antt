@@ -29,19 +29,7 @@ use Rattle.driver.specs.Sending.{sendable, frames_no_status, sent-done, sent-car
 
 -- the outline with polls due, or with none
 abbrev pub with_busy : Bool → Outline → Outline
-with_busy b o = record {
-  sectors = o.sectors;
-  pages = o.pages;
-  status = o.status;
-  busy = b;
-  some = o.some;
-  few = o.few;
-  paged = o.paged;
-  low = o.low;
-  small = o.small;
-  steady = o.steady;
-  byte = o.byte;
-}
+with_busy b o = record { geometry = o.geometry; status = o.status; busy = b }
 
 longer : (a c : Chip) (f : Frame) (fs : List Frame) (ys zs : List Cycle) (k : ℕ) → Carries (after k a f) fs c (ys ++ zs)
     → Carries a (f ∷ fs) c ((carried_out a (hears a f) ++ ys) ++ zs)
@@ -123,7 +111,7 @@ still : (b : Bool) (n : ℕ) → (b ≡ false → n ≡ 0) → (b && not (n == 0
 still true n h e = let z = eqb-true n 0 (not-false _ e) in omega arith
 still false n h e = let z = h refl in omega arith
 
-pub drives_poll : (o p : Outline) (c d : Chip) → outlined p ≡ outlined o → p.status ≡ o.status → p.busy ≡ (o.busy && not (c.busy == 0)) → d ≡ waited c
+pub drives_poll : (o p : Outline) (c d : Chip) → outlined p ≡ outlined o → p.status.bits ≡ o.status.bits → p.busy ≡ (o.busy && not (c.busy == 0)) → d ≡ waited c
     → Drives o c (status_frame ∷ []) p d (polled ∷ [])
 drives_poll o p c d s t b e =
     let P : Chip → Type 0 = λ x. Carries c (status_frame ∷ []) x (carried_out c (hears c status_frame) ++ []) in
@@ -136,7 +124,7 @@ drives_poll o p c d s t b e =
       harmless = λ q. absurd q;
     }
 
-pub poll-intact : (o p : Outline) (c d : Chip) → outlined p ≡ outlined o → p.status ≡ o.status → p.busy ≡ (o.busy && not (c.busy == 0)) → d ≡ waited c
+pub poll-intact : (o p : Outline) (c d : Chip) → outlined p ≡ outlined o → p.status.bits ≡ o.status.bits → p.busy ≡ (o.busy && not (c.busy == 0)) → d ≡ waited c
     → Intact o c → Intact p d
 poll-intact o p c d s t b e i =
     same-intact p (waited c) d e (record { shape = i.shape ∙ sym s; status = i.status ∙ sym t; idle = λ f. still o.busy c.busy i.idle (sym b ∙ f) })
@@ -149,7 +137,7 @@ same_meaning : (s t : Shape) (i j : List ℕ) (g h : List Bool) (m n : ℕ) → 
     → ◌≡◌ {A = Meaning} (record { shape = s; image = i; guarded = g; due = m }) (record { shape = t; image = j; guarded = h; due = n })
 same_meaning s t i j g h m n a b c d = cc
 
-pub seen-waited : (o p : Outline) (c d : Chip) → outlined p ≡ outlined o → p.status ≡ o.status → p.busy ≡ (o.busy && not (c.busy == 0)) → d ≡ waited c
+pub seen-waited : (o p : Outline) (c d : Chip) → outlined p ≡ outlined o → p.status.bits ≡ o.status.bits → p.busy ≡ (o.busy && not (c.busy == 0)) → d ≡ waited c
     → seen p d ≡ of_part.waited (seen o c)
 seen-waited o p c d s t b e =
     same_meaning _ _ _ _ _ _ _ _ s
@@ -165,13 +153,13 @@ pub looked : (o : Outline) (kind : Kind) (a n : ℕ) (r x : Bool) → n ≡ size
     → (a / 64 * 64 + 64 ≤ n → r ≡ presets kind x) → r ≡ presets kind x
 looked o of_kind.Program a n r x e i s f = s
 looked o of_kind.Alter a n r x e i s f = s
-looked o of_kind.Preset a n r x e i s f = f (page-fits (o.sectors * o.pages) a n e (let l = ltb-true _ _ i in omega arith))
+looked o of_kind.Preset a n r x e i s f = f (page-fits (o.geometry.sectors * o.geometry.pages) a n e (let l = ltb-true _ _ i in omega arith))
 looked o of_kind.SectorErase a n r x e i s f = s
 looked o of_kind.BulkErase a n r x e i s f = s
 
 -- a cycle
 module _ (o p : Outline) (c d : Chip) (room : ℕ) (kind : Kind) (a : ℕ) (sent : List ℕ) (sound : of_chip.Sound c) (i : Intact o c)
-    (same_shape : outlined p ≡ outlined o) (same-status : p.status ≡ o.status) (busy : p.busy ≡ true) (was-idle : o.busy ≡ false)
+    (same_shape : outlined p ≡ outlined o) (same-status : p.status.bits ≡ o.status.bits) (busy : p.busy ≡ true) (was-idle : o.busy ≡ false)
     (is-inside : inside (outlined o) kind a ≡ true) (is_filled : fills (outlined o) kind (length sent) ≡ true)
     (is_open : permits (outlined o) (guarding o) kind a ≡ true)
     (clean : presets kind (blank (page 64 (a / 64) c.image)) ≡ true)

@@ -12,14 +12,14 @@ abbrev pub seen : Outline → Chip → Meaning
 seen o c = record {
   shape = outlined o;
   image = c.image;
-  guarded = guards o.status o.sectors;
+  guarded = guards o.status.bits o.geometry.sectors;
   due = cond o.busy (c.busy + 1) 0;
 }
 
 -- what is remembered is true of the chip
 pub record Intact (o : Outline) (c : Chip) : Type 0 where
   pub shape : shape c ≡ outlined o
-  pub status : c.status ≡ o.status
+  pub status : c.status ≡ o.status.bits
   pub idle : o.busy ≡ false → c.busy ≡ 0
 
 -- no cycle and no poll: reads at most
@@ -35,7 +35,7 @@ Quiet (polled ∷ es) = ⊥
 pub record Drives (o : Outline) (c : Chip) (fs : List Frame) (p : Outline) (d : Chip) (es : List Event) : Type 0 where
   pub polls : status_reads fs ≡ polls es
   pub shape : outlined p ≡ outlined o
-  pub status : p.status ≡ o.status
+  pub status : p.status.bits ≡ o.status.bits
   pub carries : Carries c fs d (cycles es)
   pub harmless : Quiet es → (d ≡ c) × Harmless c fs
 

@@ -13,12 +13,12 @@ use Rattle.driver.specs.Driving.{seen, Intact}
 
 pub seen-sound : (o : Outline) (c : Chip) → of_chip.Sound c → Intact o c → Sound (seen o c)
 seen-sound o c s i = record {
-  some = o.some;
-  few = o.few;
-  paged = o.paged;
-  low = o.low;
+  some = o.geometry.some;
+  few = o.geometry.few;
+  paged = o.geometry.paged;
+  low = o.geometry.low;
   page = refl;
-  each = length-guards o.status o.sectors;
+  each = length-guards o.status.bits o.geometry.sectors;
   imaged = let I : Shape → Type 0 = λ m. Imaged m c.image in subst I i.shape s.imaged;
 }
 

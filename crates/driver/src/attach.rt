@@ -9,10 +9,10 @@ use crate::driver::Driver;
 use crate::fault::AttachFault;
 use crate::poll::{capacity, status, wait};
 use memory::model::Model;
+use memory::protection::Status;
+use part::limit::is_limit;
 use part::outline::Outline;
 use port::port::Port;
-
-const MOST_POLLS: usize = 4096;
 
 // What an idle chip says of itself. A port's chip is always one that is known.
 fn learn<P: Port>(port: &mut P) -> Outline
@@ -22,14 +22,10 @@ fn learn<P: Port>(port: &mut P) -> Outline
     ensures chip { P.Port.chip port.new ≡ P.Port.chip port.old }
     ensures trace { P.Port.trace port.old port.new (identify_frame ∷ status_frame ∷ []) }
 {
-    let Some(model) = Model::find(capacity(port)) else {
-        unreachable()
-    };
-    let byte = status(port);
+    let model = Model::find(capacity(port)).unwrap();
     Outline {
-        sectors: model.sectors,
-        pages: model.pages,
-        status: byte - byte % 4,
+        geometry: model.geometry,
+        status: Status::masked(status(port)),
         busy: false,
     }
 }
@@ -55,7 +51,7 @@ pub fn attach<P: Port>(mut port: P, limit: usize) -> Result<Driver<P>, Unattache
           | Busy n ↦ (P.Port.chip u.port ≡ lowered limit (P.Port.chip port)) × P.Port.trace port u.port (replicate limit status_frame)
         ]) }
 {
-    if limit == 0 || limit > MOST_POLLS {
+    if !is_limit(limit) {
         return Err(Unattached {
             fault: AttachFault::Limit(limit),
             port,

@@ -32,11 +32,11 @@ impl<P: Port> Part for Driver<P> {
     ) };
 
     fn sectors(&self) -> usize {
-        self.outline.sectors
+        self.outline.geometry.sectors
     }
 
     fn pages(&self) -> usize {
-        self.outline.pages
+        self.outline.geometry.pages
     }
 
     fn is_busy(&self) -> bool {
@@ -48,17 +48,13 @@ impl<P: Port> Part for Driver<P> {
     }
 
     fn read(&mut self, address: usize, into: &mut [u8]) -> Result<(), PartFault> {
-        if let Some(fault) = self.outline.refuses_read(address, into.len()) {
-            return Err(fault);
-        }
+        self.outline.check_read(address, into.len())?;
         read(&mut self.port, address, into);
         Ok(())
     }
 
     fn cycle(&mut self, kind: Kind, address: usize, data: &[u8]) -> Result<(), PartFault> {
-        if let Some(fault) = self.outline.refuses_cycle(kind, address, data.len()) {
-            return Err(fault);
-        }
+        self.outline.check_cycle(kind, address, data.len())?;
         if !is_clean_for(&mut self.port, kind, address) {
             return Err(PartFault::NotBlank(address));
         }
