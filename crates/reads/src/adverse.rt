@@ -2,82 +2,84 @@
 // covers is not.
 use memory::model::PAGE_BYTES;
 use std::alloc::{AllocError, Global};
+use trials::trial::{Trial, fill};
 
-// A status byte, what the memory holds, and the write.
+// One value over so many bytes from an address on.
+#[derive(Clone, Copy)]
+pub(crate) struct Stretch {
+    pub(crate) address: usize,
+    pub(crate) length: usize,
+    pub(crate) value: u8,
+}
+
+impl Stretch {
+    pub(crate) fn fill(self, bytes: &mut [u8]) {
+        fill(bytes, self.address, self.length, self.value);
+    }
+}
+
+// A row of numbers that look picked at random, by the last of them.
 #[derive(Drop)]
-pub struct Adverse {
-    pub status: u8,
-    pub image: Vec<u8>,
-    pub address: usize,
-    pub bytes: Vec<u8>,
+struct Picker {
+    last: usize,
 }
 
-pub(crate) fn fill(bytes: &mut [u8], from: usize, count: usize, value: u8) {
-    for b in bytes.iter_mut().skip(from).take(count) {
-        *b = value;
+impl Picker {
+    // A number below n.
+    fn pick(&mut self, n: usize) -> usize {
+        self.last = (self.last % 2147483648 * 1103515245 + 12345) % 2147483648;
+        self.last / 1024 % n.max(1)
     }
-}
 
-// The next of a row of numbers that look picked at random.
-fn next(seed: usize) -> usize {
-    (seed % 2147483648 * 1103515245 + 12345) % 2147483648
-}
-
-// A number below n.
-fn pick(seed: &mut usize, n: usize) -> usize {
-    *seed = next(*seed);
-    *seed / 1024 % n.max(1)
-}
-
-fn pick_status(seed: &mut usize) -> u8 {
-    match pick(seed, 8) {
-        0 => 0x84,
-        1 => 0xA4,
-        _ => 0x80,
+    fn pick_status(&mut self) -> u8 {
+        match self.pick(8) {
+            0 => 0x84,
+            1 => 0xA4,
+            _ => 0x80,
+        }
     }
-}
 
-fn pick_value(seed: &mut usize) -> u8 {
-    match pick(seed, 6) {
-        0 => 0x00,
-        1 => 0x5A,
-        _ => 0xFF,
+    fn pick_value(&mut self) -> u8 {
+        match self.pick(6) {
+            0 => 0x00,
+            1 => 0x5A,
+            _ => 0xFF,
+        }
     }
-}
 
-// Where a write begins and how long it is: mostly a few pages, often whole ones.
-fn pick_range(seed: &mut usize, size: usize) -> (usize, usize) {
-    let mut address = pick(seed, size);
-    let most = match pick(seed, 3) {
-        0 => size,
-        _ => 8 * PAGE_BYTES,
-    };
-    let mut length = pick(seed, most);
-    if pick(seed, 2) == 0 {
-        address = address / PAGE_BYTES * PAGE_BYTES;
-        length = length / PAGE_BYTES * PAGE_BYTES;
+    // Where a write begins and how long it is: mostly a few pages, often whole ones. What it covers is not FFh.
+    fn pick_stretch(&mut self, size: usize) -> Stretch {
+        let mut address = self.pick(size);
+        let most = match self.pick(3) {
+            0 => size,
+            _ => 8 * PAGE_BYTES,
+        };
+        let mut length = self.pick(most);
+        if self.pick(2) == 0 {
+            address = address / PAGE_BYTES * PAGE_BYTES;
+            length = length / PAGE_BYTES * PAGE_BYTES;
+        }
+        Stretch {
+            address,
+            length: length.min(size.saturating_sub(address)),
+            value: self.pick_value() / 2,
+        }
     }
-    (address, length.min(size.saturating_sub(address)))
 }
 
 // A memory of so many bytes and a write, by a number.
-pub(crate) fn make(heap: Global, size: usize, number: usize) -> Result<Adverse, AllocError> {
-    let mut seed = number;
-    let mut image = vec![in heap; 0xFF; size]?;
-    let (address, length) = pick_range(&mut seed, size);
-    fill(&mut image, address, length, pick_value(&mut seed) / 2);
-    for _ in 0..pick(&mut seed, 4) {
-        fill(&mut image, pick(&mut seed, size), 1, 0);
+pub(crate) fn make(heap: Global, size: usize, number: usize) -> Result<Trial, AllocError> {
+    let mut picker = Picker { last: number };
+    let covered = picker.pick_stretch(size);
+    let mut trial = Trial::blank(heap, size, 0x80, covered.address, covered.length)?;
+    covered.fill(&mut trial.image);
+    for _ in 0..picker.pick(4) {
+        fill(&mut trial.image, picker.pick(size), 1, 0);
     }
-    if pick(&mut seed, 4) > 0 {
-        fill(&mut image, size.saturating_sub(1), 1, 0);
+    if picker.pick(4) > 0 {
+        fill(&mut trial.image, size.saturating_sub(1), 1, 0);
     }
-    let bytes = vec![in heap; pick_value(&mut seed); length]?;
-    let status = pick_status(&mut seed);
-    Ok(Adverse {
-        status,
-        image,
-        address,
-        bytes,
-    })
+    trial.bytes.fill(picker.pick_value());
+    trial.status = picker.pick_status();
+    Ok(trial)
 }

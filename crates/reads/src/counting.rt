@@ -7,6 +7,7 @@ ghost use Rattle.reads.specs.CountingPartLemmas.{stayed, joined};
 ghost use Rattle.planner.proofs.Lookings.{asked_join};
 ghost use Rattle.std.proofs.Common.{rules};
 
+use least::cost::Cost;
 use least::step::Step;
 use memory::kind::Kind;
 use part::fault::PartFault;
@@ -67,17 +68,27 @@ impl<P: Part> Part for Counting<P> {
     }
 }
 
-// Plans over such a part: what the plan costs, if there is one, and how many bytes were asked for it.
+// What a plan costs, if there is one, and how many bytes were asked for it.
+#[derive(Clone, Copy)]
+pub(crate) struct Asked {
+    pub(crate) cost: Option<Cost>,
+    pub(crate) bytes: usize,
+}
+
+// Plans a write over such a part.
 pub(crate) fn plan_counted<P: Part>(
     part: &mut Counting<P>,
     address: usize,
     bytes: &[u8],
     steps: &mut [Step],
     data: &mut [u8],
-) -> (Option<(usize, usize)>, usize)
-    ensures { result.1 ≤ 3 * size (P.Part.meaning part.old.inner).shape }
+) -> Asked
+    ensures { result.bytes ≤ 3 * size (P.Part.meaning part.old.inner).shape }
 {
     part.asked = 0;
     let cost = plan(part, address, bytes, steps, data).ok();
-    (cost, part.asked)
+    Asked {
+        cost,
+        bytes: part.asked,
+    }
 }

@@ -4,67 +4,69 @@
 mod adverse;
 mod counting;
 
-use adverse::{fill, make};
-use anyhow::anyhow;
-use counting::{Counting, plan_counted};
+use adverse::{Stretch, make};
+use anyhow::{Context, anyhow};
+use counting::{Asked, Counting, plan_counted};
 use least::step::Step;
-use memory::kind::Kind;
+use memory::geometry::{Geometry, MOST_PAGES, MOST_SECTORS};
 use memory::model::PAGE_BYTES;
-use part::part::Part;
 use part::plain::PlainImage;
 use std::alloc::Global;
+use trials::trial::Trial;
 
-const SECTORS: usize = 128;
+const SECTOR: usize = MOST_PAGES * PAGE_BYTES;
 
-const PAGES: usize = 2048;
-
-const SECTOR: usize = PAGES * PAGE_BYTES;
-
-const BYTES: usize = SECTORS * SECTOR;
+const BYTES: usize = MOST_SECTORS * SECTOR;
 
 const OPEN: u8 = 0x80;
 
 // Writes tried on each small memory.
 const TRIED: usize = 4000;
 
-const UNUSED: Step = Step {
-    kind: Kind::BulkErase,
-    address: 0,
-    length: 0,
-    place: 0,
-};
-
-// Plans a write over a plain image: its cost, and the bytes asked.
-fn ask(
-    heap: Global,
-    shape: (usize, usize),
-    status: u8,
-    image: Vec<u8>,
-    address: usize,
-    bytes: &[u8],
-) -> anyhow::Result<(Option<(usize, usize)>, usize)> {
-    let mut steps = vec![in heap; UNUSED; image.len() / PAGE_BYTES + 1]?;
+// Plans a write over a plain image.
+fn ask(heap: Global, geometry: Geometry, trial: Trial) -> anyhow::Result<Asked> {
+    let Trial {
+        status,
+        image,
+        address,
+        bytes,
+    } = trial;
+    let mut steps = vec![in heap; Step::UNUSED; image.len() / PAGE_BYTES + 1]?;
     let mut data = vec![in heap; 0; image.len()]?;
-    let Ok(inner) = PlainImage::new(shape.0, shape.1, status, image) else {
-        return Err(anyhow!("the plain image cannot be made"));
-    };
+    let inner = PlainImage::new(geometry.sectors, geometry.pages, status, image).map_err(
+        |_| anyhow!("the plain image cannot be made"),
+    )?;
     let mut part = Counting { inner, asked: 0 };
-    Ok(plan_counted(&mut part, address, bytes, &mut steps, &mut data))
+    Ok(plan_counted(&mut part, address, &bytes, &mut steps, &mut data))
 }
 
-// A write to a 128Mb memory (address, length, value). The memory holds one value, but from an address on, for so many bytes,
-// another.
-fn show(
-    rt: &HostRuntime,
-    what: &str,
-    held: (u8, usize, usize, u8),
-    write: (usize, usize, u8),
-) -> anyhow::Result<()> {
+// What a 128Mb memory holds: one value, but for a stretch that may hold another.
+#[derive(Clone, Copy)]
+struct Held {
+    value: u8,
+    but: Option<Stretch>,
+}
+
+impl Held {
+    const fn all(value: u8) -> Held {
+        Held { value, but: None }
+    }
+}
+
+fn show(rt: &HostRuntime, what: &str, held: Held, write: Stretch) -> anyhow::Result<()> {
     let heap = rt.alloc();
-    let mut image = vec![in heap; held.0; BYTES]?;
-    fill(&mut image, held.1, held.2, held.3);
-    let bytes = vec![in heap; write.2; write.1]?;
-    let (cost, asked) = ask(heap, (SECTORS, PAGES), OPEN, image, write.0, &bytes)?;
+    let mut image = vec![in heap; held.value; BYTES]?;
+    if let Some(stretch) = held.but {
+        stretch.fill(&mut image);
+    }
+    let trial = Trial {
+        status: OPEN,
+        image,
+        address: write.address,
+        bytes: vec![in heap; write.value; write.length]?,
+    };
+    let geometry = geometry(MOST_SECTORS, MOST_PAGES)?;
+    let Asked { cost, bytes: asked } = ask(heap, geometry, trial)?;
     match cost {
         Some((cycles, sent)) => println!(rt;
             "{what}: {asked} bytes asked for a plan of {cycles} cycles, {sent} bytes"
@@ -74,28 +76,25 @@ fn show(
     Ok(())
 }
 
-// The most bytes that were asked of a memory of so many sectors and pages a sector.
-fn worst(heap: Global, shape: (usize, usize), size: usize) -> anyhow::Result<usize> {
+fn geometry(sectors: usize, pages: usize) -> anyhow::Result<Geometry> {
+    Geometry::new(sectors, pages).context("no memory is divided so")
+}
+
+// The most bytes that were asked of a memory.
+fn worst(heap: Global, geometry: Geometry) -> anyhow::Result<usize> {
     let mut most = 0;
     for number in 0..TRIED {
-        let trial = make(heap, size, number)?;
-        let (_, asked) = ask(
-            heap,
-            shape,
-            trial.status,
-            trial.image,
-            trial.address,
-            &trial.bytes,
-        )?;
-        most = most.max(asked);
+        let trial = make(heap, geometry.size(), number)?;
+        most = most.max(ask(heap, geometry, trial)?.bytes);
     }
     Ok(most)
 }
 
-fn show_worst(rt: &HostRuntime, shape: (usize, usize)) -> anyhow::Result<()> {
-    let (sectors, pages) = shape;
-    let size = sectors.min(SECTORS) * pages.min(PAGES) * PAGE_BYTES;
-    let most = worst(rt.alloc(), shape, size)?;
+fn show_worst(rt: &HostRuntime, geometry: Geometry) -> anyhow::Result<()> {
+    let most = worst(rt.alloc(), geometry)?;
+    let sectors = geometry.sectors;
+    let pages = geometry.pages;
+    let size = geometry.size();
     let within = most <= 3 * size;
     println!(rt;
         "sectors {sectors} of pages {pages}, {size} bytes: at most {most} asked in {TRIED} plans, within three times: {within}"
@@ -104,28 +103,59 @@ fn show_worst(rt: &HostRuntime, shape: (usize, usize)) -> anyhow::Result<()> {
 }
 
 fn main(rt: HostRuntime) -> anyhow::Result<()> {
-    let edit = (5 * SECTOR + 1000, 16, 0xA5);
-    show(&rt, "16 bytes in a used memory", (0x5A, 0, 0, 0), edit)?;
-    show(&rt, "16 bytes in a fresh memory", (0xFF, 0, 0, 0), edit)?;
+    // sixteen bytes of the sixth sector
+    let edit = Stretch {
+        address: 5 * SECTOR + 1000,
+        length: 16,
+        value: 0xA5,
+    };
+    show(&rt, "16 bytes in a used memory", Held::all(0x5A), edit)?;
+    show(&rt, "16 bytes in a fresh memory", Held::all(0xFF), edit)?;
+    let over = Stretch {
+        address: 5 * SECTOR + 1016,
+        ..edit
+    };
     show(
         &rt,
         "16 bytes over the end of a page",
-        (0x5A, 0, 0, 0),
-        (5 * SECTOR + 1016, 16, 0xA5),
+        Held::all(0x5A),
+        over,
     )?;
+    let held = Held {
+        value: 0xFF,
+        but: Some(Stretch {
+            value: 0x5A,
+            ..edit
+        }),
+    };
+    let back = Stretch {
+        value: 0xFF,
+        ..edit
+    };
     show(
         &rt,
         "16 bytes back to FFh, the last in their sector",
-        (0xFF, 5 * SECTOR + 1000, 16, 0x5A),
-        (5 * SECTOR + 1000, 16, 0xFF),
+        held,
+        back,
     )?;
-    show(&rt, "a sector", (0x5A, 0, 0, 0), (5 * SECTOR, SECTOR, 0xA5))?;
-    show(&rt, "all", (0x5A, 0, 0, 0), (0, BYTES, 0xA5))?;
-    show(&rt, "all back to FFh", (0x5A, 0, 0, 0), (0, BYTES, 0xFF))?;
-    for sectors in 1..4usize {
-        show_worst(&rt, (sectors, 1))?;
-        show_worst(&rt, (sectors, 4))?;
-        show_worst(&rt, (sectors, 32))?;
+    let sector = Stretch {
+        address: 5 * SECTOR,
+        length: SECTOR,
+        value: 0xA5,
+    };
+    show(&rt, "a sector", Held::all(0x5A), sector)?;
+    let all = Stretch {
+        address: 0,
+        length: BYTES,
+        value: 0xA5,
+    };
+    show(&rt, "all", Held::all(0x5A), all)?;
+    let all_back = Stretch { value: 0xFF, ..all };
+    show(&rt, "all back to FFh", Held::all(0x5A), all_back)?;
+    for sectors in 1..4 {
+        for pages in [1, 4, 32] {
+            show_worst(&rt, geometry(sectors, pages)?)?;
+        }
     }
     Ok(())
 }

@@ -1,22 +1,11 @@
 -- Bytes back as text.
-use Rattle.std.specs.Prelude.{ℕ, ◌+◌, ◌/◌, ◌%◌, cond, List, [], ◌∷◌, ◌++◌, nat_le, nat_lt}
-
--- an uppercase hexadecimal digit
-abbrev pub digit : ℕ → ℕ
-digit n = cond (nat_lt n 10) (48 + n) (55 + n)
-
-abbrev pub pair : ℕ → List ℕ
-pair b = digit (b / 16) ∷ digit (b % 16) ∷ []
-
--- each with a space before it
-abbrev pub spaced : List ℕ → List ℕ
-spaced [] = []
-spaced (b ∷ bs) = 32 ∷ digit (b / 16) ∷ digit (b % 16) ∷ spaced bs
+use Rattle.std.specs.Prelude.{ℕ, cond, List, [], ◌∷◌, ◌++◌, nat_le}
+use Rattle.hex_text.specs.HexText.{pair, spaced}
 
 -- pairs with single spaces, or `-` for none
 abbrev pub shown : List ℕ → List ℕ
 shown [] = 45 ∷ []
-shown (b ∷ bs) = digit (b / 16) ∷ digit (b % 16) ∷ spaced bs
+shown (b ∷ bs) = pair b ++ spaced bs
 
 -- `E10`, for a frame that is too long
 abbrev pub too_long : List ℕ

@@ -28,25 +28,20 @@ fn replay(
     heap: Global,
     text: &[u8],
     chip: &mut BenchChip,
-    out: &mut Vec<u8>,
+    out: &mut String,
 ) -> Result<(), AllocError> {
     // a frame's byte takes two digits and a space
     let mut room = vec![in heap; 0u8; text.len() / 3 + 1]?;
     let mut reader = Reader::new(text);
-    // a line has a byte at least
-    for _ in 0..text.len() {
+    loop {
         match reader.next_line() {
-            Ok(None) => break,
             Ok(Some(line)) => play(chip, line, &mut room, out)?,
+            Ok(None) | Err(ListingFault::TextShort { needed: _ }) => return Ok(()),
             Err(ListingFault::Malformed { line, column }) => {
-                let text = format!(in heap; "E12 {line} {column}\n")?;
-                out.extend_from_slice(text.as_bytes())?;
-                break;
+                return writeln!(out, "E12 {line} {column}");
             }
-            Err(ListingFault::TextShort { needed: _ }) => break,
         }
     }
-    Ok(())
 }
 
 fn main(rt: HostRuntime) -> anyhow::Result<()> {
@@ -54,11 +49,11 @@ fn main(rt: HostRuntime) -> anyhow::Result<()> {
     let mut text = Vec::new(heap);
     rt.stdin().take(MOST).read_to_end(&mut text)?;
     let image = vec![in heap; 0xFF; BYTES]?;
-    let Ok(mut chip) = BenchChip::new(CAPACITY, image, STATUS, BUSY) else {
-        return Err(anyhow!("the bench chip cannot be made"));
-    };
-    let mut out = Vec::new(heap);
+    let mut chip = BenchChip::new(CAPACITY, image, STATUS, BUSY).map_err(|_| anyhow!(
+        "the bench chip cannot be made"
+    ))?;
+    let mut out = String::new(heap);
     replay(heap, &text, &mut chip, &mut out)?;
-    rt.stdout().write_all(&out)?;
+    rt.stdout().write_all(out.as_bytes())?;
     Ok(())
 }

@@ -1,10 +1,10 @@
 // One line of a listing, played on a bench chip.
-ghost use Rattle.std.specs.Prelude.{◌≡◌, ◌+◌, ◌≤◌, ◌++◌, length, if◌then◌else◌, OnOk, nat_le};
+ghost use Rattle.std.specs.Prelude.{◌≡◌, ◌+◌, ◌≤◌, ◌++◌, length, if◌then◌else◌, OnOk, nat_le, string_bytes};
 ghost use Rattle.port.specs.Bench.{chip_of};
 ghost use Rattle.port.specs.Machine.{after, answer, frame};
 ghost use Rattle.replay.specs.Shown.{line_of};
 
-use crate::show::show;
+use crate::show::Shown;
 use listing::item::{Item, Line, Placed};
 use listing::pairs::read_pairs;
 use port::bench::BenchChip;
@@ -17,10 +17,14 @@ const MOST_BACK: usize = 255;
 fn wanted(count: Option<Placed>) -> usize
     ensures { result ≤ 255 }
 {
-    let Some(placed) = count else {
-        return 0;
-    };
-    let Item::Count(digits) = placed.item else {
+    let Some(
+        Placed {
+            item: Item::Count(digits),
+            line: _,
+            column: _,
+        },
+    ) = count
+    else {
         return 0;
     };
     let mut value = [0u8; 1];
@@ -35,18 +39,19 @@ fn play_frame(
     chip: &mut BenchChip,
     sent: &[u8],
     back: &mut [u8],
-    out: &mut Vec<u8>,
+    out: &mut String,
 ) -> Result<(), AllocError>
     ensures back { back.new ≡ (if nat_le (length sent.now + length back.old) 320 then answer 0 (chip_of chip.old) (frame sent.now (length back.old)) else back.old) }
     ensures chip { chip_of chip.new ≡ (if nat_le (length sent.now + length back.old) 320 then after chip.old.number (chip_of chip.old) (frame sent.now (length back.old)) else chip_of chip.old) }
-    ensures out { OnOk result (out.new.items ≡ out.old.items ++ line_of (length sent.now + length back.old) back.new) }
+    ensures out { OnOk result (string_bytes out.new ≡ string_bytes out.old ++ line_of (length sent.now + length back.old) back.new) }
 {
     match chip.transfer(sent, back) {
-        Ok(()) => show(back, out)?,
-        Err(_) => out.extend_from_slice(b"E10")?,
+        Ok(()) => {
+            let shown = Shown(back);
+            writeln!(out, "{shown}")
+        }
+        Err(_) => writeln!(out, "E10"),
     }
-    out.push(b'\n')?;
-    Ok(())
 }
 
 // Plays the frame of a line. `room` is for the bytes of the frame. A note does nothing.
@@ -54,7 +59,7 @@ pub(crate) fn play(
     chip: &mut BenchChip,
     line: Line,
     room: &mut [u8],
-    out: &mut Vec<u8>,
+    out: &mut String,
 ) -> Result<(), AllocError> {
     let Item::Frame(pairs) = line.first.item else {
         return Ok(());

@@ -1,40 +1,25 @@
 // Bytes back as text.
-ghost use Rattle.std.specs.Prelude.{◌≡◌, ◌<◌, ◌++◌, OnOk};
-ghost use Rattle.replay.specs.Shown.{digit as shownDigit, pair as shownPair, shown};
+ghost use Rattle.std.specs.Prelude.{Some};
+ghost use Rattle.replay.specs.Shown.{shown};
 
-use std::alloc::AllocError;
+use hex_text::spaced::Spaced;
+use std::fmt;
 
-fn digit(value: u8) -> u8
-    requires { value < 16 }
-    ensures { result ≡ shownDigit value }
-{
-    if value < 10 {
-        b'0' + value
-    } else {
-        b'A' - 10 + value
+// Shows its bytes as pairs with single spaces, or `-` for none.
+#[derive(Clone, Copy)]
+pub(crate) struct Shown<'a>(pub(crate) &'a [u8]);
+
+impl fmt::Display for Shown<'_> {
+    ghost output = { λ s. Some (shown s.0.now) };
+
+    fn fmt<W: fmt::Write>(&self, f: &mut fmt::Formatter<W>) -> fmt::Result {
+        match self.0 {
+            [] => write!(f, "-"),
+            [first, others @ ..] => {
+                let first = *first;
+                let others = Spaced(others);
+                write!(f, "{first:02X}{others}")
+            }
+        }
     }
-}
-
-fn show_pair(byte: u8, out: &mut Vec<u8>) -> Result<(), AllocError>
-    ensures { OnOk result (out.new.items ≡ out.old.items ++ shownPair byte) }
-{
-    out.push(digit(byte / 16))?;
-    out.push(digit(byte % 16))?;
-    Ok(())
-}
-
-// Uppercase pairs with single spaces, or `-` for none.
-pub(crate) fn show(bytes: &[u8], out: &mut Vec<u8>) -> Result<(), AllocError>
-    ensures { OnOk result (out.new.items ≡ out.old.items ++ shown bytes.now) }
-{
-    if bytes.len() == 0 {
-        out.push(b'-')?;
-        return Ok(());
-    }
-    show_pair(bytes[0], out)?;
-    for i in 1..bytes.len() {
-        out.push(b' ')?;
-        show_pair(bytes[i], out)?;
-    }
-    Ok(())
 }

@@ -1,5 +1,6 @@
 -- The line that is shown for a call and what came of it.
-use Rattle.std.specs.Prelude.{ℕ, ◌+◌, ◌/◌, ◌%◌, cond, List, [], ◌∷◌, ◌++◌, vec_items, codes, decimal, nat_lt}
+use Rattle.std.specs.Prelude.{ℕ, List, [], ◌∷◌, ◌++◌, vec_items, codes, decimal}
+use Rattle.hex_text.specs.HexText.{spaced}
 use Rattle.memory.specs.Row.{Row}
 use Rattle.memory.specs.Reports.{shown_row}
 use Rattle.writing.specs.declared.fault.WriteFault.TheVariants as writes
@@ -10,15 +11,6 @@ use Rattle.calls.specs.declared.call.Answer.{Answer}
 use Rattle.calls.specs.declared.call.Answer.TheVariants.{Done, Written, Refused, Abandoned}
 use Rattle.calls.specs.declared.call.Entry.{Entry}
 use Rattle.calls.specs.Refusals.{row}
-
--- an uppercase hexadecimal digit
-abbrev pub digit_text : ℕ → ℕ
-digit_text n = cond (nat_lt n 10) (48 + n) (55 + n)
-
--- pairs of digits, each with a space before it
-abbrev pub bytes_text : List ℕ → List ℕ
-bytes_text [] = []
-bytes_text (b ∷ bs) = 32 ∷ digit_text (b / 16) ∷ digit_text (b % 16) ∷ bytes_text bs
 
 abbrev pub call_text : Call → List ℕ
 call_text (Close sector) = codes "close " ++ decimal sector
@@ -37,7 +29,7 @@ answer_text (Abandoned cycles) = codes "abandoned " ++ shown_row (of_write.row (
 abbrev pub read_text : Call → Answer → List ℕ
 read_text (Close sector) answer = []
 read_text (Open sector) answer = []
-read_text (Read address into) Done = bytes_text (vec_items into)
+read_text (Read address into) Done = spaced (vec_items into)
 read_text (Read address into) (Written cycles bytes) = []
 read_text (Read address into) (Refused refusal) = []
 read_text (Read address into) (Abandoned cycles) = []

@@ -1,29 +1,34 @@
 // Runs of bytes in a script.
-ghost use Rattle.std.specs.Prelude.{◌≡◌, ◌+◌, ◌≤◌, ◌++◌, replicate, IfOk, vec_len, OnOk};
+ghost use Rattle.std.specs.Prelude.{◌≤◌, IfOk, vec_len};
 
 use crate::fault::Fault;
 use crate::numbers::{byte, decimal};
-use std::alloc::{AllocError, Global};
+use std::alloc::Global;
+use std::str::FromStr;
 
 // The bytes of the largest chip.
 pub(crate) const MOST: usize = 16777216;
 
-// `N*BB` is N copies of a byte, and `BB` one.
-fn run(word: &str) -> Result<(usize, u8), Fault> {
-    match word.split_once('*') {
-        Some((count, value)) => Ok((decimal(count)?, byte(value)?)),
-        None => Ok((1, byte(word)?)),
-    }
+// A byte, so many times.
+struct Run {
+    count: usize,
+    value: u8,
 }
 
-fn repeat(bytes: &mut Vec<u8>, count: usize, value: u8) -> Result<(), AllocError>
-    ensures items { OnOk result (bytes.new.items ≡ bytes.old.items ++ replicate count value) }
-    ensures len { OnOk result (vec_len bytes.new ≡ vec_len bytes.old + count) }
-{
-    for _ in 0..count {
-        bytes.push(value)?;
+impl FromStr for Run {
+    type Err = Fault;
+
+    // `N*BB` is N copies of a byte, and `BB` one.
+    fn from_str(word: &str) -> Result<Run, Fault> {
+        let (count, value) = match word.split_once('*') {
+            Some((count, value)) => (decimal(count)?, value),
+            None => (1, word),
+        };
+        Ok(Run {
+            count,
+            value: byte(value)?,
+        })
     }
-    Ok(())
 }
 
 // The bytes that the words spell, one after another.
@@ -32,11 +37,11 @@ pub(crate) fn bytes(heap: Global, words: &[&str]) -> Result<Vec<u8>, Fault>
 {
     let mut bytes = Vec::new(heap);
     for word in words {
-        let (count, value) = run(word)?;
+        let Run { count, value } = word.parse()?;
         if count > MOST - bytes.len() {
             return Err(Fault::Bytes);
         }
-        repeat(&mut bytes, count, value)?;
+        bytes.resize(bytes.len() + count, value)?;
     }
     Ok(bytes)
 }

@@ -1,6 +1,9 @@
 // The commands of a script.
+use crate::fault::Fault;
+use std::fmt;
+use std::str::FromStr;
 
-#[derive(Clone, Copy)]
+#[derive(Clone, Copy, PartialEq, Eq, Debug)]
 pub enum Command {
     Chip,
     Image,
@@ -12,32 +15,36 @@ pub enum Command {
     Write,
 }
 
-impl Command {
-    pub(crate) fn find(word: &str) -> Option<Command> {
+impl FromStr for Command {
+    type Err = Fault;
+
+    fn from_str(word: &str) -> Result<Command, Fault> {
         match word {
-            "chip" => Some(Command::Chip),
-            "image" => Some(Command::Image),
-            "room" => Some(Command::Room),
-            "limit" => Some(Command::Limit),
-            "close" => Some(Command::Close),
-            "open" => Some(Command::Open),
-            "read" => Some(Command::Read),
-            "write" => Some(Command::Write),
-            _ => None,
+            "chip" => Ok(Command::Chip),
+            "image" => Ok(Command::Image),
+            "room" => Ok(Command::Room),
+            "limit" => Ok(Command::Limit),
+            "close" => Ok(Command::Close),
+            "open" => Ok(Command::Open),
+            "read" => Ok(Command::Read),
+            "write" => Ok(Command::Write),
+            _ => Err(Fault::Unknown),
         }
     }
+}
 
-    // What a line with the wrong number of words is answered.
-    pub(crate) fn usage(self) -> &'static str {
-        match self {
-            Command::Chip => "write it as: chip CAPACITY STATUS BUSY",
-            Command::Image => "write it as: image ADDRESS BYTES",
-            Command::Room => "write it as: room STEPS DATA",
-            Command::Limit => "write it as: limit POLLS",
-            Command::Close => "write it as: close SECTOR",
-            Command::Open => "write it as: open SECTOR",
-            Command::Read => "write it as: read ADDRESS LENGTH",
-            Command::Write => "write it as: write ADDRESS BYTES",
-        }
+// How a line with the command is written.
+impl fmt::Display for Command {
+    fn fmt<W: fmt::Write>(&self, f: &mut fmt::Formatter<W>) -> fmt::Result {
+        f.write_str(match self {
+            Command::Chip => "chip CAPACITY STATUS BUSY",
+            Command::Image => "image ADDRESS BYTES",
+            Command::Room => "room STEPS DATA",
+            Command::Limit => "limit POLLS",
+            Command::Close => "close SECTOR",
+            Command::Open => "open SECTOR",
+            Command::Read => "read ADDRESS LENGTH",
+            Command::Write => "write ADDRESS BYTES",
+        })
     }
 }

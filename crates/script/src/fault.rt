@@ -1,98 +1,107 @@
 // What is wrong with a script.
+ghost use Rattle.std.specs.Prelude.{◌≡◌};
+ghost use Rattle.script.specs.declared.fault.Fault.TheVariants.{Making, NoMemory};
+
 use crate::command::Command;
 use port::fault::Making;
 use std::alloc::{AllocError, AllocFailed};
 use std::fmt;
+use thiserror::Error;
 
+// Why the chip of a script cannot be made, in words.
 #[derive(Clone, Copy)]
+struct Reason(Making);
+
+impl fmt::Display for Reason {
+    fn fmt<W: fmt::Write>(&self, f: &mut fmt::Formatter<W>) -> fmt::Result {
+        f.write_str(match self.0 {
+            Making::Geometry => "no chip has this capacity byte",
+            Making::Length => "the image is not as long as the chip",
+            Making::Status => "a status byte has bit 7 set, and bits 1 and 0 clear",
+            Making::Busy => "a busy number is at most 4096",
+        })
+    }
+}
+
+#[derive(Clone, Copy, PartialEq, Eq, Debug, Error)]
 pub enum Fault {
-    // longer than a script may be
+    #[error("the script is longer than 1048576 bytes")]
     Long,
-    // not UTF-8
+    #[error("the script is not UTF-8 text")]
     Text,
-    // no such command
+    #[error("unknown command")]
     Unknown,
     // too few words for the command, or too many
+    #[error("write it as: {0}")]
     Words(Command),
-    // not a decimal number
+    #[error("a number is decimal digits")]
     Number,
     // a number that no `usize` holds
+    #[error("the number is too large")]
     Large,
-    // not a byte
+    #[error("a byte is two hexadecimal digits")]
     Byte,
     // another command before `chip`, or none at all
+    #[error("the first command has to be chip")]
     NoChip,
+    #[error("chip is given twice")]
     ChipAgain,
     // the chip cannot be made
+    #[error("{}", Reason(*.0))]
     Making(Making),
-    // `image` or `room` after the first call
+    #[error("image and room stand before the first call")]
     Late,
     // the bytes of an image end past the chip's end
+    #[error("the bytes end past the end of the chip")]
     Outside,
     // more bytes than the largest chip has
+    #[error("more than 16777216 bytes in one command")]
     Bytes,
     // more bytes in the whole script than it may have
+    #[error("more than 268435456 bytes in the script")]
     AllBytes,
     // room for more than the largest chip needs
+    #[error("room is for at most 1048576 steps and 16777216 data bytes")]
     Room,
+    #[error("no memory is left")]
     NoMemory,
 }
 
 impl From<AllocError> for Fault {
+    ghost from_gives = { λ _ fault. fault ≡ NoMemory };
+
     fn from(_error: AllocError) -> Fault {
         Fault::NoMemory
     }
 }
 
 impl<T: Drop> From<AllocFailed<T>> for Fault {
+    ghost from_gives = { λ _ fault. fault ≡ NoMemory };
+
     fn from(_refused: AllocFailed<T>) -> Fault {
         Fault::NoMemory
     }
 }
 
-fn making_text(making: Making) -> &'static str {
-    match making {
-        Making::Geometry => "no chip has this capacity byte",
-        Making::Length => "the image is not as long as the chip",
-        Making::Status => "a status byte has bit 7 set, and bits 1 and 0 clear",
-        Making::Busy => "a busy number is at most 4096",
+impl From<Making> for Fault {
+    ghost from_gives = { λ making fault. fault ≡ Making making };
+
+    fn from(making: Making) -> Fault {
+        Fault::Making(making)
     }
 }
 
 impl Fault {
-    fn text(self) -> &'static str {
-        match self {
-            Fault::Long => "the script is longer than 1048576 bytes",
-            Fault::Text => "the script is not UTF-8 text",
-            Fault::Unknown => "unknown command",
-            Fault::Words(command) => command.usage(),
-            Fault::Number => "a number is decimal digits",
-            Fault::Large => "the number is too large",
-            Fault::Byte => "a byte is two hexadecimal digits",
-            Fault::NoChip => "the first command has to be chip",
-            Fault::ChipAgain => "chip is given twice",
-            Fault::Making(making) => making_text(making),
-            Fault::Late => "image and room stand before the first call",
-            Fault::Outside => "the bytes end past the end of the chip",
-            Fault::Bytes => "more than 16777216 bytes in one command",
-            Fault::AllBytes => "more than 268435456 bytes in the script",
-            Fault::Room => "room is for at most 1048576 steps and 16777216 data bytes",
-            Fault::NoMemory => "no memory is left",
-        }
+    // The fault, on a line of its script.
+    pub(crate) fn on(self, line: usize) -> ScriptFault {
+        ScriptFault { line, fault: self }
     }
 }
 
 // A fault, and the line that it is on, from 1.
-#[derive(Clone, Copy)]
+#[derive(Clone, Copy, PartialEq, Eq, Debug, Error)]
+#[error("line {line}: {fault}")]
 pub struct ScriptFault {
     pub line: usize,
     pub fault: Fault,
-}
-
-impl fmt::Display for ScriptFault {
-    fn fmt<W: fmt::Write>(&self, f: &mut fmt::Formatter<W>) -> fmt::Result {
-        let line = self.line;
-        let text = self.fault.text();
-        write!(f, "line {line}: {text}")
-    }
 }

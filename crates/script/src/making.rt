@@ -16,19 +16,15 @@ use std::alloc::Global;
 pub(crate) fn blank_chip(heap: Global, capacity: u8, status: u8, busy: usize) -> Result<Chip, Fault>
     ensures { IfOk result (λ c. (c.capacity ≡ capacity) × (c.status ≡ status) × (c.busy ≡ busy) × (c.image.items ≡ replicate (size (shape_for capacity)) 255)) }
 {
-    let Some(model) = Model::find(capacity) else {
-        return Err(Fault::Making(Making::Geometry));
-    };
+    let model = Model::find(capacity).ok_or(Making::Geometry)?;
     let blank = vec![in heap; 0xFF; model.sectors * model.pages * PAGE_BYTES]?;
-    match BenchChip::new(capacity, blank, status, busy) {
-        Ok(made) => Ok(Chip {
-            capacity,
-            status,
-            busy,
-            image: made.into_image(),
-        }),
-        Err((making, _)) => Err(Fault::Making(making)),
-    }
+    let made = BenchChip::new(capacity, blank, status, busy).map_err(|(making, _)| making)?;
+    Ok(Chip {
+        capacity,
+        status,
+        busy,
+        image: made.into_image(),
+    })
 }
 
 // Lays bytes over an image, where they lie inside it.

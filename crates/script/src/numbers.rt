@@ -1,19 +1,16 @@
 // Numbers and bytes as a script spells them.
 ghost use Rattle.std.specs.Prelude.{◌≡◌};
-ghost use Rattle.std.specs.Str.{all_ascii_digits};
-ghost use Rattle.script.specs.Spelling.{byte_of, decimal_of, digit_of};
+ghost use Rattle.std.specs.Char.{is_ascii_digit};
+ghost use Rattle.std.specs.List.{list_all};
+ghost use Rattle.script.specs.Spelling.{byte_of, decimal_of};
 
 use crate::fault::Fault;
+use hex::FromHex;
 
 fn are_digits(word: &[u8]) -> bool
-    ensures { result ≡ all_ascii_digits word.now }
+    ensures { result ≡ list_all is_ascii_digit word.now }
 {
-    for b in word {
-        if !b.is_ascii_digit() {
-            return false;
-        }
-    }
-    true
+    word.iter().all(|b| b.is_ascii_digit())
 }
 
 // The number that decimal digits write.
@@ -23,36 +20,13 @@ pub(crate) fn decimal(word: &str) -> Result<usize, Fault>
     if word.is_empty() || !are_digits(word.as_bytes()) {
         return Err(Fault::Number);
     }
-    match word.parse::<usize>() {
-        Ok(n) => Ok(n),
-        Err(_) => Err(Fault::Large),
-    }
-}
-
-// The value of a hexadecimal digit, in either case.
-fn digit(b: u8) -> Option<u8>
-    ensures { result ≡ digit_of b }
-{
-    match b {
-        b'0'..=b'9' => Some(b - b'0'),
-        b'A'..=b'F' => Some(b - b'A' + 10),
-        b'a'..=b'f' => Some(b - b'a' + 10),
-        _ => None,
-    }
+    word.parse::<usize>().map_err(|_| Fault::Large)
 }
 
 // The byte that two hexadecimal digits spell.
 pub(crate) fn byte(word: &str) -> Result<u8, Fault>
     ensures { result ≡ byte_of word.now }
 {
-    let [high, low] = word.as_bytes() else {
-        return Err(Fault::Byte);
-    };
-    let Some(high) = digit(*high) else {
-        return Err(Fault::Byte);
-    };
-    let Some(low) = digit(*low) else {
-        return Err(Fault::Byte);
-    };
-    Ok(high * 16 + low)
+    let [byte] = <[u8; 1]>::from_hex(word).map_err(|_| Fault::Byte)?;
+    Ok(byte)
 }

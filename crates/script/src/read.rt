@@ -10,59 +10,31 @@ pub const MOST_TEXT: usize = 1048576;
 
 // The line that the byte at `at` is on, from 1.
 fn line_at(text: &[u8], at: usize) -> usize {
-    let mut line: usize = 1;
-    for b in text.iter().take(at) {
-        if *b == b'\n' {
-            line = line.saturating_add(1);
-        }
-    }
-    line
+    1 + text.iter().take(at).filter(|b| **b == b'\n').count()
 }
 
 // What a line says, without its comment.
 fn take_line(heap: Global, reading: &mut Reading, line: &str) -> Result<(), Fault> {
-    let said = match line.split_once('#') {
-        Some((said, _)) => said,
-        None => line,
-    };
+    let said = line.split_once('#').map_or(line, |(said, _)| said);
     let words: Vec<&str> = said.split_whitespace().collect(heap)?;
     reading.take(&words)
 }
 
 fn read_lines(heap: Global, text: &str) -> Result<Script, ScriptFault> {
     let mut reading = Reading::new(heap);
-    let mut number: usize = 0;
-    for line in text.lines() {
-        number = number.saturating_add(1);
-        if let Err(fault) = take_line(heap, &mut reading, line) {
-            return Err(ScriptFault {
-                line: number,
-                fault,
-            });
-        }
+    for (number, line) in (1..).zip(text.lines()) {
+        take_line(heap, &mut reading, line).map_err(|fault| fault.on(number))?;
     }
-    match reading.finish() {
-        Ok(script) => Ok(script),
-        Err(fault) => Err(ScriptFault {
-            line: number.max(1),
-            fault,
-        }),
-    }
+    let last = text.lines().count().max(1);
+    reading.finish().map_err(|fault| fault.on(last))
 }
 
 // The script, or the first line that is faulty. A script without a chip is faulty on its last line.
 pub fn read_script(heap: Global, text: &[u8]) -> Result<Script, ScriptFault> {
     if text.len() > MOST_TEXT {
-        return Err(ScriptFault {
-            line: line_at(text, MOST_TEXT),
-            fault: Fault::Long,
-        });
+        return Err(Fault::Long.on(line_at(text, MOST_TEXT)));
     }
-    match from_utf8(text) {
-        Ok(text) => read_lines(heap, text),
-        Err(error) => Err(ScriptFault {
-            line: line_at(text, error.valid_up_to()),
-            fault: Fault::Text,
-        }),
-    }
+    let text = from_utf8(text)
+        .map_err(|error| Fault::Text.on(line_at(text, error.valid_up_to())))?;
+    read_lines(heap, text)
 }

@@ -1,19 +1,14 @@
 // A script while it is read, and what each command does to it.
 use crate::bytes::{MOST, bytes};
-use crate::chip::Chip;
 use crate::command::Command;
 use crate::fault::Fault;
 use crate::making::blank_chip;
 use crate::numbers::{byte, decimal};
-use crate::script::Script;
+use crate::script::{Room, Script};
 use calls::call::Call;
 use std::alloc::Global;
 
-// What there is room for where a script does not say.
-const STEPS: usize = 512;
-
-const ROOM: usize = 65536;
-
+// The most steps that there can be room for.
 const MOST_STEPS: usize = 1048576;
 
 // The poll limit where a script does not say.
@@ -25,25 +20,20 @@ const MOST_ALL: usize = 268435456;
 #[derive(Drop)]
 pub(crate) struct Reading {
     heap: Global,
-    chip: Option<Chip>,
-    steps: usize,
-    room: usize,
+    // what is read, from the chip on
+    script: Option<Script>,
     limit: usize,
     // how many bytes the rest of the calls may have
     left: usize,
-    calls: Vec<Call>,
 }
 
 impl Reading {
     pub(crate) fn new(heap: Global) -> Reading {
         Reading {
             heap,
-            chip: None,
-            steps: STEPS,
-            room: ROOM,
+            script: None,
             limit: LIMIT,
             left: MOST_ALL,
-            calls: Vec::new(heap),
         }
     }
 
@@ -52,10 +42,8 @@ impl Reading {
         let [word, arguments @ ..] = words else {
             return Ok(());
         };
-        let Some(command) = Command::find(word) else {
-            return Err(Fault::Unknown);
-        };
-        if self.chip.is_none() && !matches!(command, Command::Chip) {
+        let command = word.parse()?;
+        if self.script.is_none() && command != Command::Chip {
             return Err(Fault::NoChip);
         }
         match command {
@@ -72,67 +60,57 @@ impl Reading {
 
     // The whole script, once every line is read.
     pub(crate) fn finish(self) -> Result<Script, Fault> {
-        let Reading {
-            heap: _,
-            chip,
-            steps,
-            room,
-            limit: _,
-            left: _,
-            calls,
-        } = self;
-        match chip {
-            Some(chip) => Ok(Script {
-                chip,
-                steps,
-                room,
-                calls,
-            }),
-            None => Err(Fault::NoChip),
-        }
+        self.script.ok_or(Fault::NoChip)
     }
 
     fn set_chip(&mut self, arguments: &[&str]) -> Result<(), Fault> {
         let [capacity, status, busy] = arguments else {
             return Err(Fault::Words(Command::Chip));
         };
-        if self.chip.is_some() {
+        if self.script.is_some() {
             return Err(Fault::ChipAgain);
         }
         let chip = blank_chip(self.heap, byte(capacity)?, byte(status)?, decimal(busy)?)?;
-        self.chip = Some(chip);
+        self.script = Some(Script {
+            chip,
+            room: Room::default(),
+            calls: Vec::new(self.heap),
+        });
         Ok(())
+    }
+
+    // The script before its first call.
+    fn before_calls(&mut self) -> Result<&mut Script, Fault> {
+        let script = self.script.as_mut().ok_or(Fault::NoChip)?;
+        if script.calls.is_empty() {
+            Ok(script)
+        } else {
+            Err(Fault::Late)
+        }
     }
 
     fn lay_image(&mut self, arguments: &[&str]) -> Result<(), Fault> {
         let [address, words @ ..] = arguments else {
             return Err(Fault::Words(Command::Image));
         };
-        if !self.calls.is_empty() {
-            return Err(Fault::Late);
-        }
-        let address = decimal(address)?;
-        let laid = bytes(self.heap, words)?;
-        match &mut self.chip {
-            Some(chip) => chip.lay(address, &laid),
-            None => Err(Fault::NoChip),
-        }
+        let heap = self.heap;
+        let script = self.before_calls()?;
+        script.chip.lay(decimal(address)?, &bytes(heap, words)?)
     }
 
     fn set_room(&mut self, arguments: &[&str]) -> Result<(), Fault> {
-        let [steps, room] = arguments else {
+        let [steps, bytes] = arguments else {
             return Err(Fault::Words(Command::Room));
         };
-        if !self.calls.is_empty() {
-            return Err(Fault::Late);
-        }
-        let steps = decimal(steps)?;
-        let room = decimal(room)?;
-        if steps > MOST_STEPS || room > MOST {
+        let script = self.before_calls()?;
+        let room = Room {
+            steps: decimal(steps)?,
+            bytes: decimal(bytes)?,
+        };
+        if room.steps > MOST_STEPS || room.bytes > MOST {
             return Err(Fault::Room);
         }
-        self.steps = steps;
-        self.room = room;
+        script.room = room;
         Ok(())
     }
 
@@ -193,11 +171,12 @@ impl Reading {
 
     // One more call, with so many bytes.
     fn call(&mut self, call: Call, length: usize) -> Result<(), Fault> {
+        let script = self.script.as_mut().ok_or(Fault::NoChip)?;
         if length > self.left {
             return Err(Fault::AllBytes);
         }
         self.left -= length;
-        self.calls.push(call)?;
+        script.calls.push(call)?;
         Ok(())
     }
 }

@@ -1,88 +1,78 @@
 // What came of a call, as a line of text.
-ghost use Rattle.std.specs.Prelude.{◌≡◌, ◌<◌, ◌++◌, IfOk, string_bytes, OnOk};
-ghost use Rattle.script.specs.Showing.{answer_text, bytes_text, call_text, digit_text, line_text, read_text};
+ghost use Rattle.std.specs.Prelude.{◌≡◌, Some};
+ghost use Rattle.hex_text.specs.HexText.{spaced};
+ghost use Rattle.script.specs.Showing.{answer_text, call_text, line_text, read_text};
 
 use calls::call::{Answer, Call, Entry};
-use std::alloc::{AllocError, Global};
+use hex_text::spaced::Spaced;
+use std::fmt;
 use writing::fault::WriteFault;
 
-// What was called.
-fn call_text(heap: Global, call: &Call) -> Result<String, AllocError>
-    ensures { IfOk result (λ s. string_bytes s ≡ call_text call.now) }
-{
-    match call {
-        Call::Close { sector } => format!(in heap; "close {sector}"),
-        Call::Open { sector } => format!(in heap; "open {sector}"),
-        Call::Read { address, into: _ } => format!(in heap; "read {address}"),
-        Call::Write {
-            address,
-            bytes: _,
-            limit: _,
-        } => format!(in heap; "write {address}"),
-    }
-}
+// Shows what was called.
+#[derive(Clone, Copy)]
+struct Called<'a>(&'a Call);
 
-// What came of it.
-fn answer_text(heap: Global, answer: Answer) -> Result<String, AllocError>
-    ensures { IfOk result (λ s. string_bytes s ≡ answer_text answer) }
-{
-    match answer {
-        Answer::Done => String::from_str(heap, "done"),
-        Answer::Written(cycles, bytes) => format!(in heap; "done {cycles} {bytes}"),
-        Answer::Refused(refusal) => {
-            let report = refusal.report();
-            format!(in heap; "refused {report}")
-        }
-        Answer::Abandoned(cycles) => {
-            let report = WriteFault::Abandoned(cycles).report();
-            format!(in heap; "abandoned {report}")
+impl fmt::Display for Called<'_> {
+    ghost output = { λ s. Some (call_text s.0.now) };
+
+    fn fmt<W: fmt::Write>(&self, f: &mut fmt::Formatter<W>) -> fmt::Result {
+        match self.0 {
+            Call::Close { sector } => write!(f, "close {sector}"),
+            Call::Open { sector } => write!(f, "open {sector}"),
+            Call::Read { address, into: _ } => write!(f, "read {address}"),
+            Call::Write {
+                address,
+                bytes: _,
+                limit: _,
+            } => write!(f, "write {address}"),
         }
     }
 }
 
-fn digit(value: u8) -> u8
-    requires { value < 16 }
-    ensures { result ≡ digit_text value }
-{
-    if value < 10 {
-        b'0' + value
-    } else {
-        b'A' - 10 + value
-    }
-}
+// Shows what came of it.
+#[derive(Clone, Copy)]
+struct Answered(Answer);
 
-// Uppercase pairs, each with a space before it.
-fn show_bytes(bytes: &[u8], out: &mut Vec<u8>) -> Result<(), AllocError>
-    ensures { OnOk result (out.new.items ≡ out.old.items ++ bytes_text bytes.now) }
-{
-    for b in bytes {
-        out.push(b' ')?;
-        out.push(digit(*b / 16))?;
-        out.push(digit(*b % 16))?;
+impl fmt::Display for Answered {
+    ghost output = { λ s. Some (answer_text s.0) };
+
+    fn fmt<W: fmt::Write>(&self, f: &mut fmt::Formatter<W>) -> fmt::Result {
+        match self.0 {
+            Answer::Done => write!(f, "done"),
+            Answer::Written(cycles, bytes) => write!(f, "done {cycles} {bytes}"),
+            Answer::Refused(refusal) => {
+                let report = refusal.report();
+                write!(f, "refused {report}")
+            }
+            Answer::Abandoned(cycles) => {
+                let report = WriteFault::Abandoned(cycles).report();
+                write!(f, "abandoned {report}")
+            }
+        }
     }
-    Ok(())
 }
 
 // The bytes that a done read shows; nothing else shows any.
-fn show_read(entry: &Entry, out: &mut Vec<u8>) -> Result<(), AllocError>
-    ensures { OnOk result (out.new.items ≡ out.old.items ++ read_text entry.now.call entry.now.answer) }
+fn bytes_read(entry: &Entry) -> &[u8]
+    ensures { spaced result.now ≡ read_text entry.now.call entry.now.answer }
 {
     match (&entry.call, entry.answer) {
-        (Call::Read { address: _, into }, Answer::Done) => show_bytes(into, out),
-        _ => Ok(()),
+        (Call::Read { address: _, into }, Answer::Done) => into,
+        _ => &[],
     }
 }
 
-// Adds the line of a call: what was called, and what came of it.
-pub fn show(heap: Global, entry: &Entry, out: &mut Vec<u8>) -> Result<(), AllocError>
-    ensures { OnOk result (out.new.items ≡ out.old.items ++ line_text entry.now) }
-{
-    let called = call_text(heap, &entry.call)?;
-    let answered = answer_text(heap, entry.answer)?;
-    out.extend_from_slice(called.as_bytes())?;
-    out.extend_from_slice(b": ")?;
-    out.extend_from_slice(answered.as_bytes())?;
-    show_read(entry, out)?;
-    out.push(b'\n')?;
-    Ok(())
+// Shows the line of a call: what was called, and what came of it.
+#[derive(Clone, Copy)]
+pub struct Shown<'a>(pub &'a Entry);
+
+impl fmt::Display for Shown<'_> {
+    ghost output = { λ s. Some (line_text s.0.now) };
+
+    fn fmt<W: fmt::Write>(&self, f: &mut fmt::Formatter<W>) -> fmt::Result {
+        let called = Called(&self.0.call);
+        let answered = Answered(self.0.answer);
+        let bytes = Spaced(bytes_read(self.0));
+        writeln!(f, "{called}: {answered}{bytes}")
+    }
 }

@@ -6,7 +6,6 @@ use anyhow::anyhow;
 use driver::attach::attach;
 use least::step::Step;
 use memory::bytes::is_blank;
-use memory::kind::Kind;
 use memory::model::PAGE_BYTES;
 use part::part::Part;
 use part::plain::PlainImage;
@@ -25,13 +24,6 @@ const PAGES: usize = 2048;
 
 const STATUS: u8 = 0x80;
 
-const UNUSED: Step = Step {
-    kind: Kind::BulkErase,
-    address: 0,
-    length: 0,
-    place: 0,
-};
-
 const WRITE_ENABLE: [u8; 1] = [0x06];
 
 const BULK_ERASE: [u8; 1] = [0xC7];
@@ -44,28 +36,19 @@ const CHUNK: usize = 316;
 const FRAMES: usize = BYTES / CHUNK + 1;
 
 fn count_blank(bytes: &[u8]) -> usize {
-    let mut blank: usize = 0;
-    for b in bytes {
-        if *b == 0xFF {
-            blank = blank.saturating_add(1);
-        }
-    }
-    blank
+    bytes.iter().filter(|b| **b == 0xFF).count()
 }
 
 // How many bytes of one frame's worth are FFh.
 fn read_chunk(chip: &mut BenchChip, start: usize) -> Result<usize, PortFault> {
-    if start >= BYTES {
-        return Ok(0);
-    }
     let head = [
         READ,
-        (start / 65536) as u8,
+        (start / 65536 % 256) as u8,
         (start / 256 % 256) as u8,
         (start % 256) as u8,
     ];
     let mut bytes = [0u8; CHUNK];
-    let back = &mut bytes[0..(BYTES - start).min(CHUNK)];
+    let back = &mut bytes[0..BYTES.saturating_sub(start).min(CHUNK)];
     chip.exchange(&head, back)?;
     Ok(count_blank(back))
 }
@@ -73,8 +56,8 @@ fn read_chunk(chip: &mut BenchChip, start: usize) -> Result<usize, PortFault> {
 // How many of the chip's bytes are FFh.
 fn sweep(chip: &mut BenchChip) -> Result<usize, PortFault> {
     let mut blank: usize = 0;
-    for i in 0..FRAMES {
-        blank = blank.saturating_add(read_chunk(chip, i * CHUNK)?);
+    for start in (0..BYTES).step_by(CHUNK) {
+        blank = blank.saturating_add(read_chunk(chip, start)?);
     }
     Ok(blank)
 }
@@ -90,34 +73,26 @@ fn plan_all(rt: &HostRuntime) -> anyhow::Result<()> {
     let heap = rt.alloc();
     let image = vec![in heap; 0x5A; BYTES]?;
     let bytes = vec![in heap; 0xA5; BYTES]?;
-    let mut steps = vec![in heap; UNUSED; BYTES / PAGE_BYTES]?;
+    let mut steps = vec![in heap; Step::UNUSED; BYTES / PAGE_BYTES]?;
     let mut data = vec![in heap; 0; BYTES]?;
-    let Ok(mut part) = PlainImage::new(SECTORS, PAGES, STATUS, image) else {
-        return Err(anyhow!("the plain image cannot be made"));
-    };
-    let Ok((cycles, sent)) = plan(&mut part, 0, &bytes, &mut steps, &mut data) else {
-        return Err(anyhow!("the write is not planned"));
-    };
+    let mut part = PlainImage::new(SECTORS, PAGES, STATUS, image)
+        .map_err(|_| anyhow!("the plain image cannot be made"))?;
+    let (cycles, sent) = plan(&mut part, 0, &bytes, &mut steps, &mut data)
+        .map_err(|_| anyhow!("the write is not planned"))?;
     println!(rt; "a write of all of it: {cycles} cycles, {sent} bytes")?;
     Ok(())
 }
 
 fn main(rt: HostRuntime) -> anyhow::Result<()> {
     let image = vec![in rt.alloc(); 0; BYTES]?;
-    let Ok(mut chip) = BenchChip::new(CAPACITY, image, STATUS, 0) else {
-        return Err(anyhow!("the chip cannot be made"));
-    };
-    let Ok(blank) = erased(&mut chip) else {
-        return Err(anyhow!("a frame was too long"));
-    };
+    let mut chip = BenchChip::new(CAPACITY, image, STATUS, 0)
+        .map_err(|_| anyhow!("the chip cannot be made"))?;
+    let blank = erased(&mut chip).map_err(|_| anyhow!("a frame was too long"))?;
     println!(rt; "{blank} bytes are FFh, read in {FRAMES} frames")?;
     let mut bytes = vec![in rt.alloc(); 0; BYTES]?;
-    let Ok(mut part) = attach(chip, 1) else {
-        return Err(anyhow!("the driver does not attach"));
-    };
-    let Ok(()) = part.read(0, &mut bytes) else {
-        return Err(anyhow!("the driver does not read"));
-    };
+    let mut part = attach(chip, 1).map_err(|_| anyhow!("the driver does not attach"))?;
+    part.read(0, &mut bytes)
+        .map_err(|_| anyhow!("the driver does not read"))?;
     let all = is_blank(&bytes);
     println!(rt; "all FFh through a driver: {all}")?;
     plan_all(&rt)

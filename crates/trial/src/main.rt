@@ -1,12 +1,13 @@
 // Writes planned and run over a plain image and over a driver on a bench chip: the same steps, cost and bytes.
 #![tactic(auto)]
 
-mod trials;
+mod writes;
 
 use anyhow::anyhow;
 use driver::attach::attach;
+use least::cost::Cost;
 use least::step::Step;
-use memory::kind::Kind;
+use part::limit::MOST_POLLS;
 use part::part::Part;
 use part::plain::PlainImage;
 use planner::fault::PlanFault;
@@ -14,7 +15,8 @@ use planner::plan::plan;
 use planner::run::run;
 use port::bench::BenchChip;
 use std::alloc::{AllocError, Global};
-use trials::{BYTES, Trial, make_trial};
+use trials::trial::Trial;
+use writes::{BYTES, trials};
 
 const SECTORS: usize = 8;
 
@@ -24,21 +26,12 @@ const CAPACITY: u8 = 0x0B;
 
 const BUSY: usize = 2;
 
-const LIMIT: usize = 4096;
-
 const ROOM: usize = 64;
 
-const UNUSED: Step = Step {
-    kind: Kind::BulkErase,
-    address: 0,
-    length: 0,
-    place: 0,
-};
-
 // What came of a write: the answer of planning, how many cycles were sent, the steps and data, and the bytes then.
-#[derive(Drop)]
+#[derive(PartialEq, Drop)]
 struct Outcome {
-    answer: Result<(usize, usize), PlanFault>,
+    answer: Result<Cost, PlanFault>,
     sent: usize,
     steps: Vec<Step>,
     data: Vec<u8>,
@@ -46,7 +39,7 @@ struct Outcome {
 }
 
 fn attempt<P: Part>(heap: Global, part: &mut P, trial: &Trial) -> Result<Outcome, AllocError> {
-    let mut steps = vec![in heap; UNUSED; ROOM]?;
+    let mut steps = vec![in heap; Step::UNUSED; ROOM]?;
     let mut data = vec![in heap; 0; BYTES]?;
     let mut image = vec![in heap; 0; BYTES]?;
     let answer = plan(part, trial.address, &trial.bytes, &mut steps, &mut data);
@@ -54,9 +47,7 @@ fn attempt<P: Part>(heap: Global, part: &mut P, trial: &Trial) -> Result<Outcome
     if let Ok((cycles, bytes)) = answer {
         steps.truncate(cycles);
         data.truncate(bytes);
-        if let Ok(n) = run(part, &steps, &data, LIMIT) {
-            sent = n;
-        }
+        sent = run(part, &steps, &data, MOST_POLLS).unwrap_or(0);
     }
     let _ = part.read(0, &mut image);
     Ok(Outcome {
@@ -68,45 +59,27 @@ fn attempt<P: Part>(heap: Global, part: &mut P, trial: &Trial) -> Result<Outcome
     })
 }
 
-fn alike(a: &Outcome, b: &Outcome) -> bool {
-    a.answer == b.answer
-        && a.sent == b.sent
-        && a.steps == b.steps
-        && a.data == b.data
-        && a.image == b.image
-}
-
 // The image holds the bytes wanted, and all else is as it was.
 fn is_written(trial: &Trial, image: &[u8]) -> bool {
-    for (i, b) in image.iter().enumerate() {
-        let wanted = if i >= trial.address && i - trial.address < trial.bytes.len() {
-            trial.bytes.get(i - trial.address)
-        } else {
-            trial.image.get(i)
-        };
-        if wanted.copied() != Some(*b) {
-            return false;
-        }
-    }
-    true
+    let before = trial.image.iter().take(trial.address);
+    let end = trial.address.saturating_add(trial.bytes.len());
+    before
+        .chain(&trial.bytes)
+        .chain(trial.image.iter().skip(end))
+        .eq(image)
 }
 
 fn over_plain(heap: Global, trial: &Trial) -> anyhow::Result<Outcome> {
-    let image = trial.image.clone()?;
-    let Ok(mut part) = PlainImage::new(SECTORS, PAGES, trial.status, image) else {
-        return Err(anyhow!("the plain image cannot be made"));
-    };
+    let mut part = PlainImage::new(SECTORS, PAGES, trial.status, trial.image.clone()?)
+        .map_err(|_| anyhow!("the plain image cannot be made"))?;
     Ok(attempt(heap, &mut part, trial)?)
 }
 
 fn over_chip(heap: Global, trial: &Trial) -> anyhow::Result<Outcome> {
-    let image = trial.image.clone()?;
-    let Ok(chip) = BenchChip::new(CAPACITY, image, trial.status, BUSY) else {
-        return Err(anyhow!("the chip cannot be made"));
-    };
-    let Ok(mut part) = attach(chip, LIMIT) else {
-        return Err(anyhow!("the driver does not attach"));
-    };
+    let chip = BenchChip::new(CAPACITY, trial.image.clone()?, trial.status, BUSY)
+        .map_err(|_| anyhow!("the chip cannot be made"))?;
+    let mut part =
+        attach(chip, MOST_POLLS).map_err(|_| anyhow!("the driver does not attach"))?;
     Ok(attempt(heap, &mut part, trial)?)
 }
 
@@ -136,14 +109,10 @@ fn show(
 
 fn main(rt: HostRuntime) -> anyhow::Result<()> {
     let heap = rt.alloc();
-    for number in 0..100usize {
-        let Some(trial) = make_trial(heap, number)? else {
-            break;
-        };
-        let plain = over_plain(heap, &trial)?;
-        let chip = over_chip(heap, &trial)?;
-        let same = alike(&plain, &chip);
-        show(&rt, number, &trial, &plain, same)?;
+    for (number, trial) in trials(heap)?.iter().enumerate() {
+        let plain = over_plain(heap, trial)?;
+        let chip = over_chip(heap, trial)?;
+        show(&rt, number, trial, &plain, plain == chip)?;
     }
     Ok(())
 }

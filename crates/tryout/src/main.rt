@@ -1,7 +1,7 @@
 // A driver tried on every chip, on both sides of a bus: cycles, polls and reads, and what came of them.
 #![tactic(auto)]
 
-use anyhow::anyhow;
+use anyhow::{Context, anyhow};
 use driver::attach::attach;
 use driver::driver::Driver;
 use memory::kind::Kind;
@@ -23,28 +23,14 @@ const LIMIT: usize = 3;
 type Board = Bus<BenchChip, BenchChip>;
 
 fn made(rt: &HostRuntime, capacity: u8) -> anyhow::Result<BenchChip> {
-    let Some(model) = Model::find(capacity) else {
-        return Err(anyhow!("no such chip"));
-    };
-    let bytes = model
-        .sectors
-        .saturating_mul(model.pages)
-        .saturating_mul(PAGE_BYTES);
-    let image = vec![in rt.alloc(); 0xFF; bytes]?;
-    match BenchChip::new(capacity, image, STATUS, BUSY) {
-        Ok(chip) => Ok(chip),
-        Err(_) => Err(anyhow!("the chip cannot be made")),
-    }
+    let model = Model::find(capacity).context("no such chip")?;
+    let image = vec![in rt.alloc(); 0xFF; model.geometry.size()]?;
+    BenchChip::new(capacity, image, STATUS, BUSY).map_err(|_| anyhow!("the chip cannot be made"))
 }
 
 // Which poll, counted from 1, answers idle; none within the limit is 0.
 fn polled(part: &mut Driver<Board>) -> usize {
-    for i in 0..LIMIT {
-        if part.poll() {
-            return i + 1;
-        }
-    }
-    0
+    (1..=LIMIT).find(|_| part.poll()).unwrap_or(0)
 }
 
 // A cycle, and polls until one answers idle.
@@ -109,10 +95,8 @@ fn attach_and_try(rt: &HostRuntime, capacity: u8, side: Side) -> anyhow::Result<
         Side::First => Bus::new(chip, other, side),
         Side::Second => Bus::new(other, chip, side),
     };
-    match attach(board, LIMIT) {
-        Err(_) => Err(anyhow!("the driver does not attach")),
-        Ok(mut part) => exercise(rt, &mut part),
-    }
+    let mut part = attach(board, LIMIT).map_err(|_| anyhow!("the driver does not attach"))?;
+    exercise(rt, &mut part)
 }
 
 fn main(rt: HostRuntime) -> anyhow::Result<()> {

@@ -1,0 +1,4 @@
+// Bytes as pairs of hexadecimal digits.
+#![tactic(auto)]
+
+pub mod spaced;

@@ -1,0 +1,4 @@
+// Writes to try on a memory.
+#![tactic(auto)]
+
+pub mod trial;

@@ -1,0 +1,42 @@
+// A write to try, and the memory that it is tried on.
+ghost use Rattle.std.specs.Prelude.{◌≡◌, ◌+◌, ◌-◌, ◌++◌, length, take, drop, min, replicate, IfOk};
+
+use std::alloc::{AllocError, Global};
+
+// A status byte, what the memory holds, and the write.
+#[derive(Drop)]
+pub struct Trial {
+    pub status: u8,
+    pub image: Vec<u8>,
+    pub address: usize,
+    pub bytes: Vec<u8>,
+}
+
+impl Trial {
+    // FFh everywhere in a memory of so many bytes, and a write of so many bytes FFh.
+    pub fn blank(
+        heap: Global,
+        size: usize,
+        status: u8,
+        address: usize,
+        length: usize,
+    ) -> Result<Trial, AllocError>
+        ensures { IfOk result (λ t. (t.status ≡ status) × (t.image.items ≡ replicate size 255) × (t.address ≡ address) × (t.bytes.items ≡ replicate length 255)) }
+    {
+        Ok(Trial {
+            status,
+            image: vec![in heap; 0xFF; size]?,
+            address,
+            bytes: vec![in heap; 0xFF; length]?,
+        })
+    }
+}
+
+// Writes the value over so many bytes from `from` on, as far as there are any.
+pub fn fill(bytes: &mut [u8], from: usize, count: usize, value: u8)
+    ensures { bytes.new ≡ take from bytes.old ++ (replicate (min count (length bytes.old - from)) value ++ drop (from + count) bytes.old) }
+{
+    let from = from.min(bytes.len());
+    let count = count.min(bytes.len() - from);
+    bytes[from..from + count].fill(value);
+}
