@@ -8,7 +8,6 @@ pub mod Spelling
 pub mod Single
 pub mod Laying
 pub mod Sheets
-pub mod Answering
 pub mod Keeping
 pub mod Progress
 pub mod Planned

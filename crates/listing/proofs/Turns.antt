@@ -62,34 +62,6 @@ module _ (t : List ℕ) (at : ℕ) where
       ∙ ap (λ o. on_pair o (Err at) (λ _. cond (goes_on (drop (at + 2) t)) (pairs (at + 3) (drop (at + 3) t)) (closing (at + 2) (drop (at + 2) t)))) e
       ∙ ap (λ b. cond b (pairs (at + 3) (drop (at + 3) t)) (closing (at + 2) (drop (at + 2) t))) g
 
-  pub end_yes : get_or t at 0 ≡ 10 → at_end at (drop at t) ≡ Ok (Counted at)
-  end_yes h = ap (λ b. cond b (Ok (Counted at)) (Err at)) (eq-eqb _ _ (first_left t at ∙ h))
-
-  pub end_no : (get_or t at 0 ≡ 10 → ⊥) → at_end at (drop at t) ≡ Err at
-  end_no h = ap (λ b. cond b (Ok (Counted at)) (Err at)) (ne_eqb _ _ (λ e. h (sym (first_left t at) ∙ e)))
-
-  pub count_none : pair_of (drop at t) ≡ None → at_count at (drop at t) ≡ Err at
-  count_none e = ap (λ o. on_pair o (Err at) (λ v. cond (eqb v 0) (Err at) (at_end (at + 2) (drop 2 (drop at t))))) e
-
-  pub count_zero : (v : ℕ) → pair_of (drop at t) ≡ Some v → v ≡ 0 → at_count at (drop at t) ≡ Err at
-  count_zero v e z =
-      ap (λ o. on_pair o (Err at) (λ v. cond (eqb v 0) (Err at) (at_end (at + 2) (drop 2 (drop at t))))) e
-      ∙ ap (λ b. cond b (Err at) (at_end (at + 2) (drop 2 (drop at t)))) (eq-eqb v 0 z)
-
-  pub count_yes : (v : ℕ) → pair_of (drop at t) ≡ Some v → (v ≡ 0 → ⊥) → at_count at (drop at t) ≡ at_end (at + 2) (drop (at + 2) t)
-  count_yes v e z =
-      ap (λ o. on_pair o (Err at) (λ v. cond (eqb v 0) (Err at) (at_end (at + 2) (drop 2 (drop at t))))) e
-      ∙ ap (λ b. cond b (Err at) (at_end (at + 2) (drop 2 (drop at t)))) (ne_eqb v 0 z)
-      ∙ ap (at_end (at + 2)) (drop-drop 2 at t)
-
-  pub mark_yes : get_or t at 0 ≡ 32 → at_mark at (drop at t) ≡ at_count (at + 1) (drop (at + 1) t)
-  mark_yes h =
-      ap (λ b. cond b (at_count (at + 1) (drop 1 (drop at t))) (Err at)) (eq-eqb _ _ (first_left t at ∙ h))
-      ∙ ap (at_count (at + 1)) (drop-drop 1 at t)
-
-  pub mark_no : (get_or t at 0 ≡ 32 → ⊥) → at_mark at (drop at t) ≡ Err at
-  mark_no h = ap (λ b. cond b (at_count (at + 1) (drop 1 (drop at t))) (Err at)) (ne_eqb _ _ (λ e. h (sym (first_left t at) ∙ e)))
-
   pub closing_end : get_or t at 0 ≡ 10 → closing at (drop at t) ≡ Ok (Frame at)
   unfolding closing
   closing_end h =

@@ -22,6 +22,7 @@ fn count_pairs(pairs: &[u8]) -> Result<usize, ListingFault>
     ensures { result ≡ tallied 0 (values 0 pairs.now) }
 {
     let mut count = 0;
+    // `at` is also the place that is told, so an iterator would have to count beside it.
     let mut at = 0;
     loop {
         pair(&pairs[at..]).ok_or(broken(at))?;
@@ -40,6 +41,7 @@ fn copy_values(pairs: &[u8], into: &mut [u8])
     requires { length into.old ≡ length (good (values 0 pairs.now)) }
     ensures { into.new ≡ good (values 0 pairs.now) }
 {
+    // In a `zip` with the chunks of the text the proof would not know what was written.
     let mut at = 0;
     for byte in into.iter_mut() {
         let Some(value) = pair(&pairs[at..]) else {

@@ -60,6 +60,7 @@ impl<'a> Reader<'a> {
             (λ f. refused self.now.line (pairs 0 self.now.rest.now) ≡ Err f) }
     {
         let rest = self.rest;
+        // `at` is also the place that is told, so an iterator would have to count beside it.
         let mut at = 0;
         loop {
             pair(&rest[at..]).ok_or(self.stuck(at))?;

@@ -63,6 +63,7 @@ impl<'a> Sheet<'a> {
 }
 
 // The length of the pairs of bytes, each after a space. It can be longer than any buffer.
+// The elements of a slice are bytes, so what is written of them reads back.
 pub(crate) fn spaced_len(bytes: &[u8]) -> u128
     ensures exact { result ≡ length (spaced_text bytes.now) }
     ensures most { result < 2 ^ 66 }

@@ -7,7 +7,8 @@ ghost use Rattle.listing.specs.Writing.{line_text, exchange_of, ReadsAlone, Read
 use crate::fault::ListingFault;
 use crate::sheet::{Sheet, spaced_len};
 
-// A frame to be listed: its bytes, at least one, and how many bytes are wanted back (0: no count).
+// A frame to be listed: its bytes, at least one, and how many bytes are wanted back. None is the number 0, and no sign
+// for a missing number: an Option would say the same in two ways.
 #[derive(Clone, Copy)]
 pub struct Frame<'a> {
     pub code: u8,

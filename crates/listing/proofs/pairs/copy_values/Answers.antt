@@ -1,8 +1,6 @@
 use Rattle.std.proofs.Common.{◌<◌, length, sym, ap, ◌∙◌, arith}
-use Rattle.std.proofs.lemmas.List.{take_rest}
-use Rattle.listing.specs.Scan.{pair_of}
 use Rattle.listing.specs.Values.{values, good}
-use Rattle.listing.proofs.Drops.{reaches}
+use Rattle.listing.proofs.Drops.{pair_at, reaches}
 use Rattle.listing.proofs.Spelling.{value_left, value_here, value_turn}
 use Rattle.listing.proofs.pairs.copy_values.Goals as goal
 
@@ -18,7 +16,7 @@ pub returns-in_default : goal.returns-in_default
 returns-in_default c =
     let t = c.args.pairs.now in
     let h : c.loop-byte.byte-index < length (good (values 0 t)) = omega arith in
-    absurd (value_here t c.loop-byte.at c.loop-byte.byte-index h c.loop-byte.invariant.0 (sym (c.in_default.ensures.value ∙ ap pair_of (take_rest t c.loop-byte.at))))
+    absurd (value_here t c.loop-byte.at c.loop-byte.byte-index h c.loop-byte.invariant.0 (pair_at t c.loop-byte.at c.in_default.ensures.value))
 
 pub loop-byte-preserved : goal.loop-byte-preserved
 loop-byte-preserved c =
@@ -27,5 +25,5 @@ loop-byte-preserved c =
     let k : c.loop-byte.byte-index < length c.args.into.now = omega arith in
     let w = reaches t c.loop-byte.at 2 (omega arith) c.in-Some.ensures.within in
     let p = value_turn t c.args.into.now c.in-Some.value c.loop-byte.at c.loop-byte.byte-index c.loop-byte.into
-    (sym (c.in-Some.ensures.value ∙ ap pair_of (take_rest t c.loop-byte.at))) h k c.loop-byte.invariant.0 c.loop-byte.invariant.1 in
+    (pair_at t c.loop-byte.at c.in-Some.ensures.value) h k c.loop-byte.invariant.0 c.loop-byte.invariant.1 in
     (p.0, p.1, omega arith)

@@ -1,9 +1,7 @@
 use Rattle.std.proofs.Common.{◌≡◌, ◌+◌, drop, sym, ap, ◌∙◌, Err, arith}
-use Rattle.std.proofs.lemmas.List.{take_rest}
 use Rattle.std.proofs.lemmas.Result.{err_from_is_err_and}
-use Rattle.listing.specs.Scan.{pair_of}
 use Rattle.listing.specs.Values.{values, tallied}
-use Rattle.listing.proofs.Drops.{lacked, had}
+use Rattle.listing.proofs.Drops.{no_pair, one_pair}
 use Rattle.listing.proofs.Spelling.{values_none, values_last, values_more, values-broken, tallied-before}
 use Rattle.listing.proofs.pairs.count_pairs.Goals as goal
 
@@ -11,27 +9,26 @@ pub returns-in_err-ok_or : goal.returns-in_err-ok_or
 returns-in_err-ok_or c =
     let t = c.args.pairs.now in
     let p = err_from_is_err_and c.from_residual.result c.from_residual.ensures.1 in
-    let n = lacked c.pair.result c.broken.result c.in_err-ok_or.field-0.0 c.in_err-ok_or.ensures.value in
-    let v = sym (c.pair.ensures.value ∙ ap pair_of (take_rest t c.loop-count.at)) ∙ n.0 in
-    rw (p.1, p.2) (ap Err (n.1 ∙ c.broken.ensures) ∙ sym (c.loop-count.invariant.0 ∙ ap (tallied c.loop-count.count) (values_none t c.loop-count.at v)))
+    let n = no_pair t c.loop-count.at c.pair.ensures.value c.broken.result c.in_err-ok_or.ensures.value in
+    rw (p.1, p.2) (ap Err (n.1 ∙ c.broken.ensures) ∙ sym (c.loop-count.invariant.0 ∙ ap (tallied c.loop-count.count) (values_none t c.loop-count.at n.0)))
 
 pub returns-in-None : goal.returns-in-None
 returns-in-None c =
     let t = c.args.pairs.now in
-    let v = sym (c.pair.ensures.value ∙ ap pair_of (take_rest t c.loop-count.at)) ∙ had c.pair.result c.broken.result c.in_ok-ok_or.field-0 c.in_ok-ok_or.ensures.value in
+    let v = one_pair t c.loop-count.at c.pair.ensures.value c.broken.result c.in_ok-ok_or.ensures.value in
     sym (c.loop-count.invariant.0 ∙ ap (tallied c.loop-count.count) (values_last t c.loop-count.at c.in_ok-ok_or.field-0 v c.in-None.ensures.lookup.3))
 
 pub returns-in-Some : goal.returns-in-Some
 returns-in-Some c =
     let t = c.args.pairs.now in
-    let v = sym (c.pair.ensures.value ∙ ap pair_of (take_rest t c.loop-count.at)) ∙ had c.pair.result c.broken.result c.in_ok-ok_or.field-0 c.in_ok-ok_or.ensures.value in
+    let v = one_pair t c.loop-count.at c.pair.ensures.value c.broken.result c.in_ok-ok_or.ensures.value in
     let l = c.in-Some.ensures.lookup.3 in
     ap Err c.broken-in-Some.ensures ∙ sym (c.loop-count.invariant.0 ∙ ap (tallied c.loop-count.count) (values-broken t c.loop-count.at c.in_ok-ok_or.field-0 v l.0 (λ e. c.in-Some.field-0-test.1 (l.1 0 ∙ e))))
 
 pub loop-count-preserved : goal.loop-count-preserved
 loop-count-preserved c =
     let t = c.args.pairs.now in
-    let v = sym (c.pair.ensures.value ∙ ap pair_of (take_rest t c.loop-count.at)) ∙ had c.pair.result c.broken.result c.in_ok-ok_or.field-0 c.in_ok-ok_or.ensures.value in
+    let v = one_pair t c.loop-count.at c.pair.ensures.value c.broken.result c.in_ok-ok_or.ensures.value in
     let l = c.in-Some-eq32.ensures.lookup.3 in
     let a = l.0 in
     let s = sym (l.1 0) ∙ c.in-Some-eq32.field-0-test in

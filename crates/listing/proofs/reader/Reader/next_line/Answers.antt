@@ -6,9 +6,6 @@ use Rattle.listing.specs.Scan.{scan}
 use Rattle.listing.proofs.Lined.{line-sound, found, halted, taken}
 use Rattle.listing.proofs.reader.Reader.next_line.Goals as goal
 
-pub returns-then-is_empty : goal.returns-then-is_empty
-returns-then-is_empty c = (nil_from_length c.args.self.now.rest.now (grind (arith, nat_tests)), (refl, refl))
-
 pub returns-in_err-extent : goal.returns-in_err-extent
 returns-in_err-extent c =
     let l = c.args.self.now.line in
