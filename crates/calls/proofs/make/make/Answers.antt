@@ -1,4 +1,4 @@
-use Rattle.std.proofs.Common.{◌≡◌, ℕ, List, vec_items, sym, refl, subst}
+use Rattle.std.proofs.Common.{ℕ, List, vec_items, sym, refl, subst}
 use Rattle.fence.specs.declared.fence.Fence.{Fence}
 use Rattle.writing.specs.Wrote.{Wrote, buffers}
 use Rattle.calls.specs.Refusals.{write_answer}
