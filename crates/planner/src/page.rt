@@ -4,7 +4,7 @@ ghost use Rattle.least.specs.Fewest.{fewest};
 ghost use Rattle.least.specs.Window.{window};
 ghost use Rattle.least.specs.Plan.{lowers, window_cost};
 
-use least::cost::Cost;
+use least::cost::{Cost, NOTHING};
 use least::window::window;
 use memory::model::PAGE_BYTES;
 
@@ -15,11 +15,8 @@ pub(crate) fn page_cost(old: &[u8], new: &[u8]) -> Cost
     ensures bound { (result.0 ≤ 1) × (result.1 ≤ 64) }
 {
     match window(old, new) {
-        Some(run) => Cost {
-            cycles: 1,
-            bytes: run.length,
-        },
-        None => Cost::NONE,
+        Some(run) => (1, run.length),
+        None => NOTHING,
     }
 }
 

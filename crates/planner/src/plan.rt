@@ -36,21 +36,21 @@ fn plan_inside<P: Part>(
         return Err(PlanFault::Protected(place));
     }
     let choice = choose(part, write);
-    let cost = choice.cost;
-    if cost.cycles > steps.len() {
-        return Err(PlanFault::StepsShort(cost));
+    let (cycles, sent) = choice.cost;
+    if cycles > steps.len() {
+        return Err(PlanFault::StepsShort(choice.cost));
     }
-    if cost.bytes > data.len() {
-        return Err(PlanFault::DataShort(cost));
+    if sent > data.len() {
+        return Err(PlanFault::DataShort(choice.cost));
     }
     put_plan(
         part,
         write,
         &choice,
-        &mut steps[..cost.cycles],
-        &mut data[..cost.bytes],
+        &mut steps[..cycles],
+        &mut data[..sent],
     );
-    Ok(cost)
+    Ok(choice.cost)
 }
 
 // The plan of least cost that writes bytes at an address, as steps and their data, and what it costs: cycles and data bytes.

@@ -9,9 +9,17 @@ ghost use Rattle.planner.specs.Survey.{below, erased_from, kept, kept_from, on_f
 use crate::look::{both_pages, read_page, touches};
 use crate::overlay::Write;
 use crate::page::{blank, page_cost};
-use least::cost::Cost;
+use least::cost::{Cost, ERASE, NOTHING, at_most};
 use part::part::Part;
 use std::ops::AddAssign;
+
+// Both together, where neither count passes the largest number.
+fn plus(a: Cost, b: Cost) -> Cost
+    requires { (a.0 + b.0 < 2 ^ 64) × (a.1 + b.1 < 2 ^ 64) }
+    ensures { result ≡ fewest.plus a b }
+{
+    (a.0 + b.0, a.1 + b.1)
+}
 
 // What pages cost, and what the presets cost of those that the write touches.
 #[derive(Clone, Copy)]
@@ -22,8 +30,8 @@ pub struct Costs {
 
 impl Costs {
     pub const NONE: Costs = Costs {
-        cost: Cost::NONE,
-        presets: Cost::NONE,
+        cost: NOTHING,
+        presets: NOTHING,
     };
 }
 
@@ -33,8 +41,8 @@ impl AddAssign for Costs {
     ghost add_assign_gives = { λ a b r. (r.cost ≡ fewest.plus a.cost b.cost) × (r.presets ≡ fewest.plus a.presets b.presets) };
 
     fn add_assign(&mut self, other: Costs) {
-        self.cost += other.cost;
-        self.presets += other.presets;
+        self.cost = plus(self.cost, other.cost);
+        self.presets = plus(self.presets, other.presets);
     }
 }
 
@@ -67,7 +75,7 @@ fn rest_cost<P: Part>(part: &mut P, write: Write<'_>, q: usize) -> Cost
     ensures value { P.Part.intact part.old → result ≡ preset_off (P.Part.meaning part.old) write.entry.address write.entry.bytes.now q }
 {
     if touches(write, q) {
-        return Cost::NONE;
+        return NOTHING;
     }
     let page = read_page(part, q);
     page_cost(&blank(), &page)
@@ -114,12 +122,16 @@ pub(crate) fn erase_costs<P: Part>(
     ensures apart { let n = bytes_off write.entry.address write.entry.bytes.now first count in IfSome result (λ cost. (64 * cost.0 ≤ 64 + 64 * presets.0 + n) × (cost.1 ≤ presets.1 + n)) }
     ensures value { P.Part.intact part.old → presets ≡ on_from (P.Part.meaning part.old) write.entry.address write.entry.bytes.now first count → result ≡ below limit (erased_from (P.Part.meaning part.old) write.entry.address write.entry.bytes.now first count) }
 {
-    let mut cost = Cost::ERASE + presets;
+    let mut cost = plus(ERASE, presets);
     for q in first..first + count {
-        if limit <= cost {
+        if at_most(limit, cost) {
             return None;
         }
-        cost += rest_cost(part, write, q);
+        cost = plus(cost, rest_cost(part, write, q));
     }
-    if limit <= cost { None } else { Some(cost) }
+    if at_most(limit, cost) {
+        None
+    } else {
+        Some(cost)
+    }
 }

@@ -28,10 +28,7 @@ fn carry_out<P: Part>(
     ensures { P.Part.intact part.old → Carried P.Part.meaning P.Part.trace P.Part.intact limit address bytes.now (buffers steps.old steps.new «data».old «data».new) part.old part.new result }
 {
     let cost = plan(part, address, bytes, steps, data)?;
-    let Cost {
-        cycles,
-        bytes: sent,
-    } = cost;
+    let (cycles, sent) = cost;
     run(part, &steps[..cycles], &data[..sent], limit)?;
     Ok(cost)
 }

@@ -4,7 +4,7 @@ use Rattle.part.specs.Meaning.{Meaning}
 use Rattle.least.specs.Cost.{sum_to}
 use Rattle.least.specs.Fewest.{fewest}
 use Rattle.planner.specs.Survey.{below, preset_off, off_from, on_from, erased_from}
-use Rattle.least.proofs.Laws.{derived_is, fewest_lawful}
+use Rattle.least.proofs.Laws.{fewest_lawful}
 use Rattle.least.proofs.Sums.{Le, plus_none}
 use Rattle.planner.proofs.Askings.{off_front, off_next, same_most}
 use Rattle.planner.proofs.Lookings.{looked_none, looked_join, looked_most}
@@ -20,14 +20,14 @@ loop-q-init g c =
       omega arith,
       λ _.
           sym
-          (ap (λ n. fewest.plus c.add-cost.result (off_from (g.P.Part.meaning c.args.part.now) c.args.write.address c.args.write.bytes.now c.args.first n)) none
-          ∙ plus_none (fewest_lawful 64) c.add-cost.result),
+          (ap (λ n. fewest.plus c.plus-cost.result (off_from (g.P.Part.meaning c.args.part.now) c.args.write.address c.args.write.bytes.now c.args.first n)) none
+          ∙ plus_none (fewest_lawful 64) c.plus-cost.result),
       omega arith,
       omega arith,
     )
 
-pub returns-then-le : goal.returns-then-le
-returns-then-le g c =
+pub returns-then-at_most : goal.returns-then-at_most
+returns-then-at_most g c =
     let inv = c.loop-q.invariant in
     let a = c.args.write.address in
     let b = c.args.write.bytes.now in
@@ -44,8 +44,8 @@ returns-then-le g c =
           λ h e.
           sym (cond-true _ _ _
           (subst (λ (x : ℕ × ℕ). Le fewest c.args.limit x) (erased_is m a b c.args.first n c.args.presets e)
-          (L.leq_trans c.args.limit c.loop-q.cost (fewest.plus start (sum_to fewest n f)) (sym (derived_is c.args.limit c.loop-q.cost) ∙ sym c.if-le.ensures)
-          (subst (λ (x : ℕ × ℕ). Le fewest x (fewest.plus start (sum_to fewest n f))) (sym (inv.3 h ∙ ap (λ x. fewest.plus x (sum_to fewest (c.loop-q.q - c.args.first) f)) c.add-cost.ensures))
+          (L.leq_trans c.args.limit c.loop-q.cost (fewest.plus start (sum_to fewest n f)) (sym c.if-at_most.ensures)
+          (subst (λ (x : ℕ × ℕ). Le fewest x (fewest.plus start (sum_to fewest n f))) (sym (inv.3 h ∙ ap (λ x. fewest.plus x (sum_to fewest (c.loop-q.q - c.args.first) f)) c.plus-cost.ensures))
           (L.plus_mono start start (sum_to fewest (c.loop-q.q - c.args.first) f) (sum_to fewest n f) (L.leq_refl start) (sum-front L f n (c.loop-q.q - c.args.first) (omega arith)))))));
     }
 
@@ -56,14 +56,14 @@ loop-q-preserved g c =
     let a = c.args.write.address in
     let b = c.args.write.bytes.now in
     let m = g.P.Part.meaning c.args.part.now in
-    let start : ℕ × ℕ = c.add-cost.result in
+    let start : ℕ × ℕ = c.plus-cost.result in
     let f : ℕ → ℕ × ℕ = λ i. preset_off m a b (c.args.first + i) in
-    let sum = parts _ _ _ c.add_assign.ensures.after in (
+    let sum = parts _ _ _ c.plus-cost-in-loop-q.ensures in (
       looked_join g.P.Part.meaning g.P.Part.trace g.P.Part.intact g.met.P.Part.joins _ _ _ _ _ _ inv.0 page.looked (same_most _ _ (sym (off_next a b c.args.first c.loop-q.q (omega arith)))),
       omega (arith, inv.1, page.bound, sum.0),
       omega (arith, inv.2, page.bound, sum.1),
       λ h.
-          c.add_assign.ensures.after
+          c.plus-cost-in-loop-q.ensures
           ∙ ap₂ (λ x y. fewest.plus x y) (inv.3 h)
           (page.value (inv.0.keeps h) ∙ ap (λ x. preset_off x a b c.loop-q.q) inv.0.same)
           ∙ ((fewest_lawful 64).plus_assoc start (sum_to fewest (c.loop-q.q - c.args.first) f) (preset_off m a b c.loop-q.q)
@@ -80,8 +80,8 @@ ended :
 ended m a b first count j presets cost d t e =
     t ∙ (ap (λ n. fewest.plus (fewest.plus (1, 0) presets) (off_from m a b first n)) d ∙ erased_is m a b first count presets e)
 
-pub returns-then-le-2 : goal.returns-then-le-2
-returns-then-le-2 g c =
+pub returns-then-at_most-2 : goal.returns-then-at_most-2
+returns-then-at_most-2 g c =
     let inv = c.loop-q.invariant in
     let m = g.P.Part.meaning c.args.part.now in
     record {
@@ -92,14 +92,14 @@ returns-then-le-2 g c =
           λ h e.
           sym (cond-true _ _ _
           (subst (λ (x : ℕ × ℕ). Le fewest c.args.limit x)
-          (ended m c.args.write.address c.args.write.bytes.now c.args.first c.args.count (c.loop-q.q - c.args.first) c.args.presets c.loop-q.cost (omega arith) (inv.3 h ∙ ap (λ x. fewest.plus x (off_from m c.args.write.address c.args.write.bytes.now c.args.first (c.loop-q.q - c.args.first))) c.add-cost.ensures) e)
-          (sym (derived_is c.args.limit c.loop-q.cost) ∙ sym c.if-le-2.ensures)));
+          (ended m c.args.write.address c.args.write.bytes.now c.args.first c.args.count (c.loop-q.q - c.args.first) c.args.presets c.loop-q.cost (omega arith) (inv.3 h ∙ ap (λ x. fewest.plus x (off_from m c.args.write.address c.args.write.bytes.now c.args.first (c.loop-q.q - c.args.first))) c.plus-cost.ensures) e)
+          (sym c.if-at_most-2.ensures)));
     }
 
-pub returns-else-le-2 : goal.returns-else-le-2
-returns-else-le-2 g c =
+pub returns-else-at_most-2 : goal.returns-else-at_most-2
+returns-else-at_most-2 g c =
     let inv = c.loop-q.invariant in
-    let start = parts _ _ _ c.add-cost.ensures in
+    let start = parts _ _ _ c.plus-cost.ensures in
     let m = g.P.Part.meaning c.args.part.now in
     record {
       looked = looked_most g.P.Part.meaning g.P.Part.trace g.P.Part.intact _ _ _ _ inv.0 (off_front c.args.write.address c.args.write.bytes.now c.args.first c.args.count (c.loop-q.q - c.args.first) (omega arith));
@@ -109,7 +109,7 @@ returns-else-le-2 g c =
           (omega (arith, inv.4, n, start.0), omega (arith, inv.5, n, start.1));
       value =
           λ h e.
-          sym (cond-false _ _ _ (sym (derived_is c.args.limit c.loop-q.cost) ∙ sym c.if-le-2.ensures))
+          sym (cond-false _ _ _ (sym c.if-at_most-2.ensures))
           ∙ ap (below c.args.limit)
-          (ended m c.args.write.address c.args.write.bytes.now c.args.first c.args.count (c.loop-q.q - c.args.first) c.args.presets c.loop-q.cost (omega arith) (inv.3 h ∙ ap (λ x. fewest.plus x (off_from m c.args.write.address c.args.write.bytes.now c.args.first (c.loop-q.q - c.args.first))) c.add-cost.ensures) e);
+          (ended m c.args.write.address c.args.write.bytes.now c.args.first c.args.count (c.loop-q.q - c.args.first) c.args.presets c.loop-q.cost (omega arith) (inv.3 h ∙ ap (λ x. fewest.plus x (off_from m c.args.write.address c.args.write.bytes.now c.args.first (c.loop-q.q - c.args.first))) c.plus-cost.ensures) e);
     }
