@@ -158,6 +158,3 @@ frame-kept p o s is e f = ap (λ x. kept_from x is) (sym f ∙ ap held e)
 
 pub count_kept : (o : Option Placed) (p : Placed) (w : List ℕ) → o ≡ Some p → w ≡ text_of (part_of p.item) → kept_count (count_of o) ≡ (32 ∷ 62 ∷ 32 ∷ []) ++ (w ++ 10 ∷ [])
 count_kept o p w e f = ap (λ x. kept_count (count_of x)) e ∙ ap (λ y. 32 ∷ 62 ∷ 32 ∷ y ++ 10 ∷ []) (sym f)
-
-pub count-size : (w : List ℕ) → length ((32 ∷ 62 ∷ 32 ∷ []) ++ (w ++ 10 ∷ [])) ≡ length w + 4
-count-size w = let k = length-append w (10 ∷ []) in omega arith

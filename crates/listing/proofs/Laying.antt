@@ -1,12 +1,11 @@
 -- Parts of a text laid one after another over the start of a buffer.
-use Rattle.std.proofs.Common.{◌≡◌, ℕ, ◌+◌, ◌*◌, ◌<◌, ◌≤◌, cond, List, [], ◌∷◌, ◌++◌, length, get_or, take, drop, Ok, Err, sym, refl, ap, ◌∙◌, append_assoc, add-zero, zero-add, arith, length-append}
+use Rattle.std.proofs.Common.{◌≡◌, ℕ, ◌+◌, ◌*◌, ◌<◌, ◌≤◌, cond, List, [], ◌∷◌, ◌++◌, length, get_or, take, drop, sym, refl, ap, ◌∙◌, append_assoc, add-zero, zero-add, arith, length-append}
 use borrow.Rule.Slice.PartMut.{put_mid}
 use Rattle.std.proofs.lemmas.List.{take_at, take-append-drop, drop-drop, take_more, length-take-le}
 use Rattle.std.proofs.lemmas.Slice.{drop-append-drop}
-use Rattle.std.proofs.lemmas.Bool.{eq-eqb, ne_eqb, le-leb, lt-leb}
-use Rattle.listing.specs.declared.fault.ListingFault.TheVariants.{TextShort}
+use Rattle.std.proofs.lemmas.Bool.{eq-eqb, ne_eqb, le-leb}
 use Rattle.listing.specs.Parts.{exchange}
-use Rattle.listing.specs.Values.{fitted, over}
+use Rattle.listing.specs.Values.{over}
 use Rattle.listing.specs.Writing.{laid, pair_text, spaced_text, pairs_text, back_text, line_text}
 
 -- the buffer l with w over its start
@@ -91,12 +90,3 @@ line-size c bs n =
 -- what fits a buffer, and what does not
 pub over-fits : (w l : List ℕ) → length w ≤ length l → over w l ≡ topped w l
 over-fits w l h = ap (λ b. cond b (topped w l) l) (le-leb (length w) (length l) h)
-
-pub over-short : (w l : List ℕ) → length l < length w → over w l ≡ l
-over-short w l h = ap (λ b. cond b (topped w l) l) (lt-leb (length w) (length l) h)
-
-pub fitted-fits : (w : List ℕ) (n : ℕ) → length w ≤ n → fitted w n ≡ Ok (length w)
-fitted-fits w n h = ap (λ b. cond b (Ok (length w)) (Err (TextShort (length w)))) (le-leb (length w) n h)
-
-pub fitted_short : (w : List ℕ) (n : ℕ) → n < length w → fitted w n ≡ Err (TextShort (length w))
-fitted_short w n h = ap (λ b. cond b (Ok (length w)) (Err (TextShort (length w)))) (lt-leb (length w) n h)

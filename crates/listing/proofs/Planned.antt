@@ -1,7 +1,7 @@
 -- The frames of steps, and their text.
 use Rattle.std.proofs.Common.{◌≡◌, ℕ, zero, suc, ◌+◌, ◌*◌, ◌<◌, ◌≤◌, Bool, true, false, cond, List, [], ◌∷◌, ◌++◌, length, get_or, take, drop, Some, None, Ok, Err, Option, sym, refl, ap, ◌∙◌, subst, ap₂, arith, lit≤, length-append, length-take}
-use Rattle.std.proofs.lemmas.List.{append-nil, map-append, drop_more, drop_all, take_more, take-append-drop}
-use Rattle.std.proofs.lemmas.Bool.{cond-true, cond-false, and_parts, leb-true, ltb-true, le-leb, lt-leb}
+use Rattle.std.proofs.lemmas.List.{append-nil, map-append, drop_more, take_more, take-append-drop}
+use Rattle.std.proofs.lemmas.Bool.{and_parts, leb-true, ltb-true}
 use Rattle.memory.specs.declared.kind.Kind.{Kind}
 use Rattle.memory.specs.declared.kind.Kind.TheVariants.{Program, Alter, Preset, SectorErase, BulkErase}
 use Rattle.memory.specs.Page.{block}
@@ -16,10 +16,9 @@ use Rattle.port.proofs.Building.{length-built}
 use Rattle.least.specs.declared.step.Step.{Step}
 use Rattle.least.specs.Steps.{step_cycle, cycles_of, sent_by}
 use Rattle.listing.specs.declared.plan_fault.PlanListingFault.{PlanListingFault}
-use Rattle.listing.specs.declared.plan_fault.PlanListingFault.TheVariants.{TextShort}
 use Rattle.listing.specs.Parts.{exchange}
 use Rattle.listing.specs.PlanFault.{lies, filled, unlisted, or_else, first_unlisted, checked}
-use Rattle.listing.specs.PlanFrames.{enabling, sending, plan_frames, plan_text, answered}
+use Rattle.listing.specs.PlanFrames.{enabling, sending, plan_frames, plan_text}
 use Rattle.listing.specs.declared.sheet.Sheet.{Sheet}
 use Rattle.listing.specs.Sheets.{Room, Wrote}
 use Rattle.listing.specs.Writing.{line_text, listing}
@@ -107,13 +106,6 @@ pub first_here : (sent : List ℕ) (steps : List Step) (i : ℕ) (d : Step) (f :
     → first_unlisted sent (drop i steps) ≡ Some f
 first_here sent steps i d f h e = ap (first_unlisted sent) (drop_more steps i d h) ∙ ap (λ o. or_else o (first_unlisted sent (drop (i + 1) steps))) e
 
-pub first_past : (sent : List ℕ) (steps : List Step) (i : ℕ) (d : Step) → i < length steps → unlisted sent (get_or steps i d) ≡ None
-    → first_unlisted sent (drop i steps) ≡ first_unlisted sent (drop (i + 1) steps)
-first_past sent steps i d h e = ap (first_unlisted sent) (drop_more steps i d h) ∙ ap (λ o. or_else o (first_unlisted sent (drop (i + 1) steps))) e
-
-pub first_end : (sent : List ℕ) (steps : List Step) (i : ℕ) → length steps ≤ i → first_unlisted sent (drop i steps) ≡ None
-first_end sent steps i h = ap (first_unlisted sent) (drop_all i steps h)
-
 -- what the check of a step, or of the steps, says
 pub checked_some : (o : Option PlanListingFault) (f : PlanListingFault) → Err f ≡ checked o → o ≡ Some f
 checked_some None f e = absurd (let z : ◌≡◌ {A = ℕ} 0 1 = cc in omega arith)
@@ -127,10 +119,6 @@ checked_none (Some g) e = absurd (let z : ◌≡◌ {A = ℕ} 0 1 = cc in omega 
 pub line-bytes : (w : List ℕ) → 0 < length w → length (line_text (exchange w 0)) ≡ 3 * length w
 line-bytes [] h = absurd (omega arith)
 line-bytes (b ∷ bs) h = let l = line-size b bs 0 in let n = spaced-size bs in omega arith
-
-pub first_rest : (w : List ℕ) → 0 < length w → get_or w 0 0 ∷ drop 1 w ≡ w
-first_rest [] h = absurd (omega arith)
-first_rest (b ∷ bs) h = refl
 
 -- the two lines of a step
 pub step-text : (sent : List ℕ) (s : Step) → plan_text sent (s ∷ []) ≡ line_text enabling ++ line_text (sending (step_cycle sent s))
@@ -207,10 +195,3 @@ step-lines sent s i o bytes ok r e b =
     let n = ap length b in
     let m = sent_most sent s ok in
     let t = step-size sent s in (omega arith, f.1, omega arith)
-
--- what fits a buffer, and what does not
-pub answer-fits : (w : List ℕ) (n : ℕ) → length w ≤ n → answered None w n ≡ Ok (length w)
-answer-fits w n h = cond-true _ _ _ (le-leb (length w) n h)
-
-pub answer-short : (w : List ℕ) (n : ℕ) → n < length w → answered None w n ≡ Err (TextShort (length w))
-answer-short w n h = cond-false _ _ _ (lt-leb (length w) n h)

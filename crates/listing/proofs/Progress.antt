@@ -1,5 +1,5 @@
 -- A text read line by line.
-use Rattle.std.proofs.Common.{◌≡◌, ℕ, ◌+◌, ◌<◌, ◌≤◌, List, [], ◌∷◌, ◌++◌, length, drop, Some, None, Ok, Err, Option, Result, sym, refl, ap, ◌∙◌, subst, append_assoc, arith, length-append}
+use Rattle.std.proofs.Common.{◌≡◌, ℕ, ◌+◌, ◌≤◌, List, [], ◌∷◌, ◌++◌, length, drop, Some, None, Ok, Err, Option, Result, sym, refl, ap, ◌∙◌, subst, append_assoc, arith, length-append}
 use Rattle.std.proofs.lemmas.List.{append-nil, length-drop}
 use Rattle.listing.specs.declared.fault.ListingFault.{ListingFault}
 use Rattle.listing.specs.declared.item.Line.{Line}
@@ -107,22 +107,6 @@ pub record Copying (text was left : List ℕ) (l : ℕ) (rest : List ℕ) (at : 
   pub place : at ≡ length written
   pub buffer : left ≡ topped written was
 
-pub copying_start : (text was : List ℕ) (n : ℕ) → n ≤ length was → Measured text n → Copying text was was 1 text 0
-copying_start text was n h m =
-    record {
-      all-items = m.items;
-      all = m.exchanges;
-      whole = m.reads;
-      fits = let k = m.size in omega arith;
-      items = m.items;
-      exchanges = m.exchanges;
-      reads = m.reads;
-      written = [];
-      split = refl;
-      place = refl;
-      buffer = refl;
-    }
-
 -- the part of what is left to write that a taken line keeps
 copying_split : {text was left₀ : List ℕ} {l m at : ℕ} {s left : List ℕ} {r : Line} (p : Copying text was left₀ l s at) (t : Taken l m s left r) →
     listing p.all ≡ (p.written ++ kept_of (spots_of r)) ++ listing (rest_of t p.reads).exchanges
@@ -206,6 +190,3 @@ next_some l m was left o r e h = let P : Option Line → Type 0 = λ x. Next l m
 
 pub next_none : (l m : ℕ) (was left : List ℕ) (o : Option Line) → o ≡ None → Next l m was left (Ok o) → was ≡ []
 next_none l m was left o e h = let P : Option Line → Type 0 = λ x. Next l m was left (Ok x) in (subst P e h).0
-
-pub taken_less : {l m : ℕ} {s left : List ℕ} {r : Line} → Taken l m s left r → length left < length s
-taken_less {left} t = let a = ap length t.split in let b = length-append t.text (10 ∷ left) in omega arith

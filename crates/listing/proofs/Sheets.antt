@@ -99,9 +99,6 @@ module _ (p : Sheet) (c n : ℕ) (bs : List ℕ) (h : Room p (line_text (exchang
   line_wrote x y z u = wrote_join (line-parts c bs n) h (wrote_join refl front (wrote_join refl bytes x y) z) u
 
 -- a text on a new sheet
-pub sheet_room : (p : Sheet) {was : List ℕ} (w : List ℕ) → p.at ≡ 0 → p.into.now ≡ was → length w ≤ length was → Room p w
-sheet_room p w z e h = let n = ap length e in omega arith
-
 pub sheet_text : {p q : Sheet} {w was : List ℕ} → p.at ≡ 0 → p.into.now ≡ was → Wrote p q w → (q.at ≡ length w) × (q.into.now ≡ laid 0 w was)
 sheet_text {p} {q} {w} {was} z e x =
     let n = x.place in

@@ -4,9 +4,9 @@ use Rattle.std.specs.List.{position, position_from}
 use Rattle.std.proofs.lemmas.Iterator.Adapters.{position_from-zero}
 use Rattle.std.proofs.lemmas.List.{drop-drop}
 use Rattle.listing.specs.declared.extent.Extent.{Extent}
-use Rattle.listing.specs.declared.extent.Extent.TheVariants.{Note, Frame, Counted}
-use Rattle.std.proofs.lemmas.Bool.{eq-eqb, ne_eqb}
-use Rattle.listing.specs.Scan.{pair_of, on_pair, goes_on, at_end, at_count, at_mark, closing, pairs, inside}
+use Rattle.listing.specs.declared.extent.Extent.TheVariants.{Note, Frame}
+use Rattle.std.proofs.lemmas.Bool.{ne_eqb}
+use Rattle.listing.specs.Scan.{pair_of, on_pair, goes_on, at_mark, closing, pairs, inside}
 use Rattle.listing.proofs.Drops.{first_left}
 
 abbrev pub noted : ℕ → Option ℕ → Result Extent ℕ

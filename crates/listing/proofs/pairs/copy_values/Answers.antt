@@ -1,4 +1,4 @@
-use Rattle.std.proofs.Common.{◌<◌, length, sym, ap, ◌∙◌, arith}
+use Rattle.std.proofs.Common.{◌<◌, length, arith}
 use Rattle.listing.specs.Values.{values, good}
 use Rattle.listing.proofs.Drops.{pair_at, reaches}
 use Rattle.listing.proofs.Spelling.{value_left, value_here, value_turn}

@@ -1,8 +1,5 @@
-use Rattle.std.proofs.Common.{ap}
-use Rattle.std.proofs.lemmas.List.{take_all}
-use Rattle.listing.specs.PlanFrames.{plan_text}
 use Rattle.listing.proofs.Planned.{unlisted_at, text_none, step_room, step_turn}
-use Rattle.listing.proofs.Sheets.{wrote_none, wrote_is}
+use Rattle.listing.proofs.Sheets.{wrote_none}
 use Rattle.listing.proofs.plan_text.put_steps.Goals as goal
 
 pub loop-step-init : goal.loop-step-init
@@ -16,6 +13,3 @@ put_step-requires c = record {
 
 pub loop-step-preserved : goal.loop-step-preserved
 loop-step-preserved c = step_turn c.args.data.now c.args.steps.now c.loop-step.step-index _ c.loop-step-test.true c.requires.room c.loop-step.invariant c.put_step.ensures
-
-pub returns : goal.returns
-returns c = wrote_is c.loop-step.invariant (ap (plan_text c.args.data.now) (take_all c.loop-step.step-index c.args.steps.now c.loop-step-test.false))

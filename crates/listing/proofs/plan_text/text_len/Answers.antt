@@ -1,6 +1,4 @@
-use Rattle.std.proofs.Common.{length, sym, ap, ◌∙◌, arith}
-use Rattle.std.proofs.lemmas.List.{take_all}
-use Rattle.listing.specs.PlanFrames.{plan_text}
+use Rattle.std.proofs.Common.{length, sym, ap, arith}
 use Rattle.listing.proofs.Planned.{unlisted_at, text_none, size_more}
 use Rattle.listing.proofs.plan_text.text_len.Goals as goal
 

@@ -1,13 +1,8 @@
 use Rattle.listing.specs.Parts.{part_of, count_of}
 use Rattle.listing.specs.Writing.{kept_count}
 use Rattle.listing.proofs.Keeping.{kept_other, frame-kept}
-use Rattle.listing.proofs.Sheets.{room_first, room_next, wrote_join, wrote_none}
+use Rattle.listing.proofs.Sheets.{room_next, wrote_join, wrote_none}
 use Rattle.listing.proofs.rewrite.keep.Goals as goal
-
-pub put-requires : goal.put-requires
-put-requires c =
-    let is = count_of c.args.line.count in
-    room_first c.args.sheet.now c.in-Some.pairs.now (kept_count is) (frame-kept (part_of c.args.line.first.item) c.kept.result c.in-Some.pairs is c.in-Some.is c.kept.ensures) c.requires
 
 pub keep_count-requires : goal.keep_count-requires
 keep_count-requires c =

@@ -1,12 +1,8 @@
-use Rattle.std.proofs.Common.{◌∷◌, [], arith}
+use Rattle.std.proofs.Common.{arith}
 use Rattle.listing.specs.Writing.{pair_text}
 use Rattle.listing.proofs.Laying.{back_none, back_some}
-use Rattle.listing.proofs.Sheets.{room_first, room_next, wrote_join, wrote_none}
+use Rattle.listing.proofs.Sheets.{room_next, wrote_join, wrote_none}
 use Rattle.listing.proofs.sheet.Sheet.put_back.Goals as goal
-
-pub put-requires : goal.put-requires
-put-requires c =
-    room_first c.args.self.now (32 ∷ 62 ∷ 32 ∷ []) (pair_text c.args.back) (back_some c.args.back (λ e. omega arith)) c.requires
 
 pub put_pair-requires : goal.put_pair-requires
 put_pair-requires c = room_next (pair_text c.args.back) (back_some c.args.back (λ e. omega arith)) c.requires c.put.ensures

@@ -1,7 +1,6 @@
-use Rattle.std.proofs.Common.{refl, ap}
-use Rattle.std.proofs.lemmas.List.{take_all}
+use Rattle.std.proofs.Common.{refl}
 use Rattle.listing.specs.Writing.{spaced_text}
-use Rattle.listing.proofs.Sheets.{wrote_none, wrote_is, space_room, spaced_room, spaced_turn}
+use Rattle.listing.proofs.Sheets.{wrote_none, space_room, spaced_room, spaced_turn}
 use Rattle.listing.proofs.sheet.Sheet.put_spaced.Goals as goal
 
 pub loop-byte-init : goal.loop-byte-init
@@ -16,6 +15,3 @@ put_pair-requires c = spaced_room c.args.bytes.now c.loop-byte.byte-index c.requ
 
 pub loop-byte-preserved : goal.loop-byte-preserved
 loop-byte-preserved c = spaced_turn c.args.bytes.now c.loop-byte.byte-index c.requires c.loop-byte-test.true c.loop-byte.invariant c.put.ensures c.put_pair.ensures
-
-pub returns : goal.returns
-returns c = wrote_is c.loop-byte.invariant (ap spaced_text (take_all c.loop-byte.byte-index c.args.bytes.now c.loop-byte-test.false))
