@@ -9,7 +9,7 @@ ghost use Rattle.planner.specs.Looking.{Fitting, LookedBy};
 ghost use Rattle.planner.specs.Survey.{below, by_sectors, erases, kept, on_all, preset, preset_on};
 ghost use Rattle.planner.specs.Choice.{Chosen};
 
-use crate::chosen::{Choice, MOST_SECTORS};
+use crate::chosen::{Choice, Erasure, MOST_SECTORS};
 use crate::look::protects;
 use crate::overlay::Write;
 use crate::survey::{Costs, erase_costs, touched_costs};
@@ -98,13 +98,11 @@ pub(crate) fn choose<P: Part>(part: &mut P, write: Write<'_>) -> Choice
     let sectors = sector_costs(part, write, &mut erased);
     match bulk_cost(part, write, sectors.presets, sectors.cost) {
         Some(cost) => Choice {
-            bulk: true,
-            erased,
+            erasure: Erasure::All,
             cost,
         },
         None => Choice {
-            bulk: false,
-            erased,
+            erasure: Erasure::Sectors(erased),
             cost: sectors.cost,
         },
     }

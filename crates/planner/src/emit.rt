@@ -9,7 +9,7 @@ ghost use Rattle.planner.specs.Lists.{bulk_list, kept_list, preset_list, sector_
 ghost use Rattle.planner.specs.Choice.{Chosen};
 ghost use Rattle.planner.specs.Call.{plan_list};
 
-use crate::chosen::Choice;
+use crate::chosen::{Choice, Erasure};
 use crate::look::{both_pages, touches, wanted_page};
 use crate::overlay::Write;
 use crate::page::{blank, only_lowers};
@@ -211,8 +211,8 @@ pub(crate) fn put_plan<P: Part>(
     ensures looked { LookedBy P.Part.meaning P.Part.trace P.Part.intact (whole (P.Part.meaning part.old)) part.old part.new }
     ensures sent { P.Part.intact part.old → Chosen (P.Part.meaning part.old) write.entry.address write.entry.bytes.now choice.now → Sent (plan_list (P.Part.meaning part.old) write.entry.address write.entry.bytes.now) steps.old steps.new «data».old «data».new (0, 0) result }
 {
-    if choice.bulk {
-        return put_bulk(part, write, steps, data);
+    match &choice.erasure {
+        Erasure::All => put_bulk(part, write, steps, data),
+        Erasure::Sectors(erased) => put_sectors(part, write, erased, steps, data),
     }
-    put_sectors(part, write, &choice.erased, steps, data)
 }
