@@ -9,7 +9,7 @@ ghost use Rattle.planner.specs.Lists.{bulk_list, page_list, pages_list, sector_l
 ghost use Rattle.planner.specs.Choice.{Chosen};
 ghost use Rattle.planner.specs.Call.{plan_list};
 
-use crate::chosen::Choice;
+use crate::chosen::{Choice, Erasure};
 use crate::look::{both_pages, touches, wanted_page};
 use crate::overlay::Write;
 use crate::page::{blank, only_lowers};
@@ -132,10 +132,10 @@ fn put_choice<P: Part>(part: &mut P, write: Write<'_>, choice: &Choice, sheet: &
     ensures looked { LookedBy P.Part.meaning P.Part.trace P.Part.intact (whole (P.Part.meaning part.old)) part.old part.new }
     ensures sent { Sent (P.Part.intact part.old × Chosen (P.Part.meaning part.old) write.entry.address write.entry.bytes.now choice.now) (plan_list (P.Part.meaning part.old) write.entry.address write.entry.bytes.now) sheet.old sheet.new }
 {
-    if choice.bulk {
-        return put_bulk(part, write, sheet);
+    match &choice.erasure {
+        Erasure::All => put_bulk(part, write, sheet),
+        Erasure::Sectors(erased) => put_sectors(part, write, erased, sheet),
     }
-    put_sectors(part, write, &choice.erased, sheet);
 }
 
 // The plan that was chosen, from the front of each buffer on.

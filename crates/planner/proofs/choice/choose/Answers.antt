@@ -28,7 +28,7 @@ returns-in-Some g c =
           let t : Some c.in-Some.cost ≡ answered m a b (by_sectors m a b) =
           bulk.value (sectors.looked.keeps h) (sectors.touched h ∙ ap (λ x. on_all x a b) (sym sectors.looked.same)) ∙ (ap (λ x. answered x a b c.sector_costs-sectors.result.cost) sectors.looked.same ∙ ap (answered m a b) (sectors.value h)) in
           let w = chose_bulk (free (protected_at m) m.shape.sectors) (by_sectors m a b) (bulk_cost fewest m.shape (preset m a b)) c.in-Some.cost t in
-          record { bulk = w.0; marks = sectors.marks h; cost = w.1 };
+          record { erasure = sym w.0; cost = w.1 };
     }
 
 pub returns-in-None : goal.returns-in-None
@@ -45,5 +45,5 @@ returns-in-None g c =
           let t : None ≡ answered m a b (by_sectors m a b) =
           bulk.value (sectors.looked.keeps h) (sectors.touched h ∙ ap (λ x. on_all x a b) (sym sectors.looked.same)) ∙ (ap (λ x. answered x a b c.sector_costs-sectors.result.cost) sectors.looked.same ∙ ap (answered m a b) (sectors.value h)) in
           let w = chose_sectors (free (protected_at m) m.shape.sectors) (by_sectors m a b) (bulk_cost fewest m.shape (preset m a b)) t in
-          record { bulk = w.0; marks = sectors.marks h; cost = sectors.value h ∙ w.1 };
+          record { erasure = (sym w.0, sectors.marks h); cost = sectors.value h ∙ w.1 };
     }
