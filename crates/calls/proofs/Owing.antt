@@ -10,11 +10,7 @@ use Rattle.calls.specs.Reference.{Reference, Holds, fed, rewritten}
 use Rattle.calls.specs.Law.{Law}
 use Rattle.calls.specs.History.{Agrees, Follows}
 
--- what holds of one image holds of the reference's, where that is the one
-pub holds_by : (o : Option (List ℕ)) (x : List ℕ) (Q : List ℕ → Type 0) → Q x → Holds o (λ i. x ≡ i) → Holds o Q
-holds_by None x Q q h = tt
-holds_by (Some i) x Q q h = subst Q h q
-
+-- what the reference holds of an image, of the next image
 pub holds_moved : (o : Option (List ℕ)) (x y : List ℕ) → y ≡ x → Holds o (λ i. x ≡ i) → Holds o (λ i. y ≡ i)
 holds_moved None x y e h = tt
 holds_moved (Some i) x y e h = e ∙ h

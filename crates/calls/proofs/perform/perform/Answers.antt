@@ -14,9 +14,6 @@ loop-call-init g c =
       λ i. (rw (made.items, c.new-fence.ensures) (so_far_none _ _ _ _ c.args.part), i),
     )
 
-pub push_reserved-requires : goal.push_reserved-requires
-push_reserved-requires g c = omega (arith, c.loop-call.invariant.3, c.in-Some.ensures.steps.1)
-
 pub loop-call-preserved : goal.loop-call-preserved
 loop-call-preserved g c =
     let step = c.in-Some.ensures.steps in
