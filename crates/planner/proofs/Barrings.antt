@@ -67,13 +67,6 @@ first_later from mid to end image wanted p i e h k =
     let b = k.1 in
     (omega arith, omega arith, k.2, λ a l u. ⊎_elim (λ v. h a l v) (λ v. k.3 a v u) (cases_lt a mid))
 
--- what a part says of a sector
-pub protected_is :
-    (m : Meaning) (k : ℕ) (b : Bool) (r : Result Bool PartFault) → k < m.shape.sectors → r ≡ protection m k → r ≡ Ok b
-    → protected_at m k ≡ b
-protected_is m k b r h e t =
-    let c : protection m k ≡ Ok (protected_at m k) = cond-true (ltb k m.shape.sectors) _ _ (lt-ltb _ _ h) in cc
-
 module _ (m : Meaning) (S : Sound m) (wanted : List ℕ) (k p : ℕ) (e : p ≡ m.shape.pages) where
   real : Real m.shape
   real = record { pages = S.paged; bytes = omega (arith, S.page) }

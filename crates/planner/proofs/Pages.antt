@@ -1,32 +1,20 @@
 -- Loops over the bytes of a page.
-use Rattle.std.proofs.Common.{◌≡◌, ℕ, suc, ◌+◌, ◌-◌, ◌%◌, ◌<◌, ◌≤◌, Bool, true, false, ◌&&◌, eqb, List, [], ◌∷◌, length, get_or, drop, set, sym, ap, ◌∙◌, ap₂, arith}
+use Rattle.std.proofs.Common.{◌≡◌, ℕ, suc, ◌+◌, ◌-◌, ◌%◌, ◌<◌, ◌≤◌, Bool, true, false, ◌&&◌, eqb, List, [], ◌∷◌, length, get_or, drop, set, sym, refl, ap, ◌∙◌, ap₂, arith}
 use lib.Bits.{bit_and}
 use lib.Seq.{sets}
 use Rattle.std.proofs.lemmas.List.{drop_more, drop_all}
 use Rattle.std.proofs.lemmas.Bool.{eq-eqb, ne_eqb}
+use Rattle.std.specs.List.{list_all, zip}
 use Rattle.least.specs.Plan.{lowers, bytes_from}
 
-module _ (old new : List ℕ) (i : ℕ) where
-  lowers_at :
-      i < length old → i < length new
-      → lowers (drop i old) (drop i new)
-      ≡ (eqb (bit_and (get_or old i 0) (get_or new i 0)) (get_or new i 0) && lowers (drop (i + 1) old) (drop (i + 1) new))
-  lowers_at h k = ap₂ lowers (drop_more old i 0 h) (drop_more new i 0 k)
+-- no bit rises at one place, and at all places that both have
+abbrev pub lowers_test : ℕ × ℕ → Bool
+lowers_test p = eqb (bit_and p.0 p.1) p.1
 
-  pub lowers_rises :
-      i < length old → i < length new → (bit_and (get_or old i 0) (get_or new i 0) ≡ get_or new i 0 → ⊥)
-      → lowers (drop i old) (drop i new) ≡ false
-  lowers_rises h k d =
-      lowers_at h k ∙ ap (λ (b : Bool). b && lowers (drop (i + 1) old) (drop (i + 1) new)) (ne_eqb _ _ d)
-
-  pub lowers_more :
-      i < length old → i < length new → bit_and (get_or old i 0) (get_or new i 0) ≡ get_or new i 0
-      → lowers (drop i old) (drop i new) ≡ lowers (drop (i + 1) old) (drop (i + 1) new)
-  lowers_more h k e =
-      lowers_at h k ∙ ap (λ (b : Bool). b && lowers (drop (i + 1) old) (drop (i + 1) new)) (eq-eqb _ _ e)
-
-  pub lowers-all : length old ≤ i → lowers (drop i old) (drop i new) ≡ true
-  lowers-all h = ap (λ x. lowers x (drop i new)) (drop_all i old h)
+pub lowers_all : (old new : List ℕ) → lowers old new ≡ list_all lowers_test (zip old new)
+lowers_all [] new = refl
+lowers_all (x ∷ old) [] = refl
+lowers_all (x ∷ old) (y ∷ new) = ap (λ (b : Bool). eqb (bit_and x y) y && b) (lowers_all old new)
 
 -- one more byte of a window
 pub bytes_none : (z : ℕ) (new : List ℕ) (a n : ℕ) → n ≡ 0 → bytes_from z new a n ≡ []

@@ -10,6 +10,7 @@ ghost use Rattle.planner.specs.Survey.{below, by_sectors, erases, kept, on_all, 
 ghost use Rattle.planner.specs.Choice.{Chosen};
 
 use crate::chosen::{Choice, MOST_SECTORS};
+use crate::look::protects;
 use crate::overlay::Write;
 use crate::survey::{Costs, erase_costs, touched_costs};
 use least::cost::Cost;
@@ -71,12 +72,7 @@ fn sector_costs<P: Part>(part: &mut P, write: Write<'_>, erased: &mut [bool]) ->
 fn is_free<P: Part>(part: &P) -> bool
     ensures { result ≡ free (protected_at (P.Part.meaning part.now)) (P.Part.meaning part.now).shape.sectors }
 {
-    for k in 0..part.sectors() {
-        if part.is_protected(k).unwrap() {
-            return false;
-        }
-    }
-    true
+    !(0..part.sectors()).any(|k| protects(part, k))
 }
 
 // A bulk erase and then presets, if it is accepted and below what the sectors cost, from the presets of the touched pages.

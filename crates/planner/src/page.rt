@@ -35,10 +35,5 @@ pub(crate) fn only_lowers(old: &[u8], new: &[u8]) -> bool
     requires { length old.now ≡ length new.now }
     ensures { result ≡ lowers old.now new.now }
 {
-    for i in 0..old.len() {
-        if old[i] & new[i] != new[i] {
-            return false;
-        }
-    }
-    true
+    old.iter().zip(new).all(|(a, b)| a & b == *b)
 }
