@@ -38,6 +38,7 @@ impl<P: Port> From<Unperformed<Driver<P>>> for Unplayed<P> {
 }
 
 // Attaches a driver to the port, by at most `limit` polls, puts a new fence over it, and makes the calls in their order.
+// (The step list and the data buffer are lent apart, as `write` takes them.)
 pub fn perform_attached<P: Port>(
     heap: Global,
     port: P,

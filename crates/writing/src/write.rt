@@ -36,6 +36,7 @@ fn carry_out<P: Part>(
 // Writes bytes at an address at the least cost, and answers it: cycles and data bytes sent. The checks in their order: the
 // limit, the range, polls due beyond the limit, a protected change, room for the steps, room for the data, polls due beyond
 // the limit after a cycle. A done write leaves in both buffers the plan that was sent, and so does an abandoned one.
+// (The step list and the data buffer stay two parameters: each is lent on its own, with a refusal number of its own.)
 pub fn write<P: Part>(
     part: &mut P,
     address: usize,
