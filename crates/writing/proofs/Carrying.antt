@@ -82,12 +82,12 @@ module _ {P : Type 0} (meaning : P → Meaning) (trace : P → P → List Event 
       -- what holds of an error holds of the one that `?` made of it
       pub carried_as : (a b : P) (r : Result (ℕ × ℕ) WriteFault) (fault : WriteFault) → IsErrAnd r (λ f. f ≡ fault) → Here a b (Err fault) → Here a b r
       carried_as a b r fault e h =
-          let p = err_from_is_err_and r e in subst (λ (x : Result (ℕ × ℕ) WriteFault). Here a b x) (sym (p.1 ∙ ap Err p.2)) h
+          let p = err_from_is_err_and r e in rw (p.1, p.2) h
 
       handed : (a : P) (r : Result (ℕ × ℕ) PlanFault) → idle (meaning a) ≡ true
           → Handed (plan_call (meaning a) address bytes (length steps) (length sent)) r steps steps' sent sent'
           → Handed (answer a) r steps steps' sent sent'
-      handed a r q h = subst (λ (x : Answer). Handed x r steps steps' sent sent') (call_idle (meaning a) address bytes (length steps) (length sent) q) h
+      handed a r q h = rw (call_idle (meaning a) address bytes (length steps) (length sent) q) at h
 
       pub carried-unplanned : (a b : P) (fault : PlanFault) → (meaning a).due ≡ 0 → Looked meaning trace intact a b
           → Handed (plan_call (meaning a) address bytes (length steps) (length sent)) (Err fault) steps steps' sent sent'
@@ -175,8 +175,6 @@ module _ {P : Type 0} (meaning : P → Meaning) (trace : P → P → List Event 
       carried-ran a mid to cost n d r S small on' q i look h e x =
           let plan = handed_plan a cost S small (eq-eqb _ _ q) h in
           let counts : ◌≡◌ {A = ℕ × ℕ} (n, d) (length plan.list, length plan.fresh) = e ∙ plan.counts in
-          carried_run a mid cost plan q on' i look to r
-          (subst (λ (l : List Step). Ran meaning trace intact plan.fresh limit l mid to r)
-          (ap (take n) plan.filled.0 ∙ take_at plan.list _ n (omega (arith, ap (λ (y : ℕ × ℕ). y.0) counts)))
-          (subst (λ (l : List ℕ). Ran meaning trace intact l limit (take n steps') mid to r)
-          (ap (take d) plan.filled.1 ∙ take_at plan.fresh _ d (omega (arith, ap (λ (y : ℕ × ℕ). y.1) counts))) x))
+          let list : take n steps' ≡ plan.list = ap (take n) plan.filled.0 ∙ take_at plan.list _ n (omega (arith, ap (λ (y : ℕ × ℕ). y.0) counts)) in
+          let fresh : take d sent' ≡ plan.fresh = ap (take d) plan.filled.1 ∙ take_at plan.fresh _ d (omega (arith, ap (λ (y : ℕ × ℕ). y.1) counts)) in
+          carried_run a mid cost plan q on' i look to r (rw (list, fresh) at x)
