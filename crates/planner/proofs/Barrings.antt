@@ -1,13 +1,11 @@
 -- The lowest changed byte of pages, and the lowest barred one of sectors.
-use Rattle.std.proofs.Common.{◌≡◌, ℕ, ◌+◌, ◌-◌, ◌*◌, ◌<◌, ◌≤◌, Bool, true, false, ltb, List, get_or, Some, None, Ok, Option, Result, sym, ap, ◌∙◌, subst, ⊎_elim, mul_assoc, add-mul, arith}
-use Rattle.std.proofs.lemmas.Bool.{both_ways, cases_eq, cases_lt, cond-true, lt-ltb}
+use Rattle.std.proofs.Common.{◌≡◌, ℕ, ◌+◌, ◌-◌, ◌*◌, ◌<◌, ◌≤◌, true, false, List, get_or, Some, None, Option, sym, ap, ◌∙◌, subst, ⊎_elim, mul_assoc, add-mul, arith}
+use Rattle.std.proofs.lemmas.Bool.{both_ways, cases_eq, cases_lt}
 use Rattle.memory.specs.Shape.{sector_at}
 use Rattle.memory.specs.Page.{page}
 use Rattle.memory.proofs.Blocks.{apart, below_end, get_or-block}
 use Rattle.memory.proofs.Pages.{Real, in_its_sector}
-use Rattle.part.specs.declared.fault.PartFault.{PartFault}
 use Rattle.part.specs.Meaning.{Meaning, Sound, protected_at}
-use Rattle.part.specs.Verdict.{protection}
 use Rattle.least.specs.Barred.{Barred, LowestIs}
 use Rattle.planner.specs.Changes.{FirstIn}
 use Rattle.least.specs.Window.{FirstChange}

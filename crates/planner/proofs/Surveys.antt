@@ -1,13 +1,10 @@
 -- What is found of a write: pages that it does not touch, a sector's choice, and the choice of all.
-use Rattle.std.proofs.Common.{◌≡◌, ℕ, zero, suc, ◌+◌, ◌*◌, ◌<◌, ◌≤◌, Bool, true, false, cond, ltb, not, ◌&&◌, ◌⊎◌, List, [], replicate, Some, None, Ok, Err, Result, sym, refl, ap, ◌∙◌, ap₂, inl, inr, ⊎_elim, subst, zero-add, add-one, arith}
-use Rattle.std.proofs.lemmas.Bool.{and_from, and_right, or_parts, or_cases, cases_Bool, cases_eq, cond-true, cond-false, lt-ltb}
+use Rattle.std.proofs.Common.{◌≡◌, ℕ, zero, suc, ◌+◌, ◌*◌, ◌<◌, ◌≤◌, Bool, true, false, cond, not, ◌&&◌, ◌⊎◌, List, [], replicate, Some, None, sym, refl, ap, ◌∙◌, ap₂, inl, inr, ⊎_elim, zero-add, arith}
+use Rattle.std.proofs.lemmas.Bool.{and_from, and_right, or_parts, or_cases, cases_Bool, cases_eq, cond-false}
 use Rattle.memory.specs.Page.{page}
 use Rattle.memory.specs.Protection.{free}
 use Rattle.memory.specs.Cycle.{program, alter}
-use Rattle.part.specs.Meaning.{Meaning, protected_at}
-use Rattle.part.specs.Verdict.{protection}
-use Rattle.part.specs.declared.fault.PartFault.{PartFault}
-use Rattle.part.specs.declared.fault.PartFault.TheVariants.{NoSector}
+use Rattle.part.specs.Meaning.{Meaning}
 use Rattle.std.specs.List.{list_any, range_with_len}
 use Rattle.least.specs.Cost.{lesser}
 use Rattle.least.specs.Fewest.{fewest}

@@ -1,5 +1,4 @@
-use Rattle.std.proofs.Common.{ℕ, ◌-◌, ◌<◌, Bool, true, not, refl, ap, ◌∙◌, ap₂, arith, rules, tests}
-use Rattle.std.specs.List.{range_with_len}
+use Rattle.std.proofs.Common.{not, refl, ap, ◌∙◌, arith, rules, tests}
 use Rattle.std.proofs.lemmas.Iterator.{YieldsList-from_range}
 use Rattle.std.proofs.lemmas.Iterator.Search.{any_from_yields_List}
 use Rattle.memory.specs.Protection.{free}

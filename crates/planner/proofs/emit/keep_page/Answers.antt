@@ -1,7 +1,7 @@
 use Rattle.std.proofs.Common.{sym, subst, arith}
 use Rattle.std.proofs.lemmas.Bool.{leb-true}
 use Rattle.planner.specs.Sending.{Sent}
-use Rattle.planner.proofs.Lookings.{looked_none, page-low, write_low}
+use Rattle.planner.proofs.Lookings.{looked_none, page-low}
 use Rattle.planner.proofs.Sendings.{sent_full, sent_none}
 use Rattle.planner.proofs.Surveys.{cycles_off}
 use Rattle.planner.proofs.emit.keep_page.Goals as goal
@@ -10,7 +10,7 @@ pub touches-requires : goal.touches-requires
 touches-requires g c =
     let m = g.P.Part.meaning c.args.part.now in
     let R = c.requires.fitting.1 in
-    (page-low m c.args.q R, write_low m c.args.q R c.args.write.address c.args.write.bytes.now c.requires.fitting.0)
+    page-low m c.args.q R
 
 pub returns-then-is_full : goal.returns-then-is_full
 returns-then-is_full g c =
