@@ -12,7 +12,7 @@ abbrev pub bytes_of : Image → List ℕ
 bytes_of i = vec_items i.bytes
 
 abbrev pub shape_of : Image → Shape
-shape_of i = shaped i.sectors i.pages
+shape_of i = shaped i.geometry.sectors i.geometry.pages
 
 -- 1 to 128 sectors of 1 to 2,048 pages
 abbrev pub in_range : ℕ → ℕ → Bool

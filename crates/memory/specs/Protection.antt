@@ -1,5 +1,5 @@
 -- Which sectors the status byte protects.
-use Rattle.std.specs.Prelude.{ℕ, zero, suc, ◌-◌, ◌/◌, ◌^◌, min, Bool, true, cond, not, ◌&&◌, ◌==◌, bit_and, nat_le, nat_lt}
+use Rattle.std.specs.Prelude.{ℕ, zero, suc, ◌-◌, ◌/◌, ◌%◌, ◌^◌, min, Bool, true, cond, not, ◌&&◌, ◌==◌, bit_and, nat_le, nat_lt}
 
 -- bits 4 to 2, BP2 to BP0, as a number
 abbrev pub block_protect : ℕ → ℕ
@@ -21,3 +21,7 @@ protects status sectors sector =
 abbrev pub free : (ℕ → Bool) → ℕ → Bool
 free prot zero = true
 free prot (suc n) = not (prot n) && free prot n
+
+-- a status byte at rest: bit 7 (SRWD) is 1, and bits 1 and 0 are 0
+abbrev pub at_rest : ℕ → Bool
+at_rest status = nat_le 128 status && status % 4 == 0

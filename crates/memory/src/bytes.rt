@@ -6,18 +6,11 @@ pub fn fill(bytes: &mut [u8], value: u8)
     ensures after { bytes.new ≡ replicate (length bytes.old) value }
     ensures bytes { (i : ℕ) → slice_index bytes.new i < 256 }
 {
-    for x in bytes.iter_mut() {
-        *x = value;
-    }
+    bytes.fill(value);
 }
 
 pub fn is_blank(bytes: &[u8]) -> bool
     ensures { result ≡ blank bytes.now }
 {
-    for x in bytes {
-        if *x != 0xFF {
-            return false;
-        }
-    }
-    true
+    bytes.iter().all(|x| *x == 0xFF)
 }

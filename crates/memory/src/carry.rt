@@ -7,45 +7,38 @@ ghost use Rattle.memory.specs.Image.{bytes_of, carried, rolled, shape_of, unmade
 
 use crate::bytes::is_blank;
 use crate::cycle::carry_out;
-use crate::image::{Image, ImageFault};
+use crate::geometry::Geometry;
+use crate::image::{Image, ImageFault, Unmade};
 use crate::kind::Kind;
 use crate::model::PAGE_BYTES;
-use crate::page::{are_bytes, roll};
-
-const MOST_SECTORS: usize = 128;
-
-const MOST_PAGES: usize = 2048;
+use crate::page::roll;
 
 impl Image {
     // The caller's bytes as an image; they are handed back where they cannot be one.
-    pub fn new(sectors: usize, pages: usize, bytes: Vec<u8>) -> Result<Image, (ImageFault, Vec<u8>)>
+    pub fn new(sectors: usize, pages: usize, bytes: Vec<u8>) -> Result<Image, Unmade<ImageFault>>
         ensures { MatchResult result
-            (λ i. (unmade sectors pages (vec_len bytes) ≡ None) × (i.sectors ≡ sectors) × (i.pages ≡ pages) × (i.bytes ≡ bytes))
-            (λ e. (unmade sectors pages (vec_len bytes) ≡ Some e.0) × (e.1 ≡ bytes)) }
+            (λ i. (unmade sectors pages (vec_len bytes) ≡ None) × (i.geometry.sectors ≡ sectors) × (i.geometry.pages ≡ pages) × (i.bytes ≡ bytes))
+            (λ e. (unmade sectors pages (vec_len bytes) ≡ Some e.fault) × (e.bytes ≡ bytes)) }
     {
-        if sectors == 0 || sectors > MOST_SECTORS || pages == 0 || pages > MOST_PAGES {
-            return Err((ImageFault::Geometry, bytes));
+        let Some(geometry) = Geometry::new(sectors, pages) else {
+            return Err(Unmade {
+                fault: ImageFault::Geometry,
+                bytes,
+            });
+        };
+        if bytes.len() != geometry.size() {
+            return Err(Unmade {
+                fault: ImageFault::Length,
+                bytes,
+            });
         }
-        if bytes.len() != sectors * pages * PAGE_BYTES {
-            return Err((ImageFault::Length, bytes));
-        }
-        are_bytes(&bytes);
-        Ok(Image {
-            sectors,
-            pages,
-            bytes,
-        })
+        Ok(Image { geometry, bytes })
     }
 
     pub fn into_bytes(self) -> Vec<u8>
         ensures { result ≡ self.bytes }
     {
-        let Image {
-            sectors: _,
-            pages: _,
-            bytes,
-        } = self;
-        bytes
+        self.bytes
     }
 
     pub fn len(&self) -> usize
@@ -78,13 +71,6 @@ impl Image {
         ensures shape { shape_of self.new ≡ shape_of self.old }
         ensures bytes { bytes_of self.new ≡ carried (shape_of self.old) (cycle_of kind address sent.now) (bytes_of self.old) }
     {
-        carry_out(
-            &mut self.bytes,
-            self.sectors,
-            self.pages,
-            kind,
-            address,
-            sent,
-        );
+        carry_out(&mut self.bytes, self.geometry, kind, address, sent);
     }
 }

@@ -5,6 +5,7 @@
 pub mod bytes;
 mod carry;
 mod cycle;
+pub mod geometry;
 pub mod image;
 pub mod kind;
 pub mod model;

@@ -1,6 +1,7 @@
 // The chips that are known.
 ghost use Rattle.std.specs.Prelude.{◌≡◌};
-ghost use Rattle.memory.specs.Models.{models, lookup};
+
+use crate::geometry::Geometry;
 
 // A page is 64 bytes on every chip.
 pub const PAGE_BYTES: usize = 64;
@@ -9,44 +10,50 @@ pub const PAGE_BYTES: usize = 64;
 #[derive(Clone, Copy, PartialEq, Eq, Debug)]
 pub struct Model {
     pub capacity: u8,
-    pub sectors: usize,
-    // in a sector
-    pub pages: usize,
+    pub geometry: Geometry,
 }
 
 const MODELS: [Model; 4] = [
     Model {
         capacity: 0x16,
-        sectors: 32,
-        pages: 2048,
+        geometry: Geometry {
+            sectors: 32,
+            pages: 2048,
+        },
     },
     Model {
         capacity: 0x17,
-        sectors: 64,
-        pages: 2048,
+        geometry: Geometry {
+            sectors: 64,
+            pages: 2048,
+        },
     },
     Model {
         capacity: 0x18,
-        sectors: 128,
-        pages: 2048,
+        geometry: Geometry {
+            sectors: 128,
+            pages: 2048,
+        },
     },
     Model {
         capacity: 0x0B,
-        sectors: 8,
-        pages: 4,
+        geometry: Geometry {
+            sectors: 8,
+            pages: 4,
+        },
     },
 ];
 
 impl Model {
+    ghost use Rattle.memory.specs.Models.{models, lookup};
+
     // The chip with this capacity byte.
     pub fn find(capacity: u8) -> Option<Model>
         ensures { result ≡ lookup models capacity }
     {
-        for model in MODELS.iter() {
-            if model.capacity == capacity {
-                return Some(*model);
-            }
-        }
-        None
+        MODELS
+            .iter()
+            .find(|model| model.capacity == capacity)
+            .copied()
     }
 }

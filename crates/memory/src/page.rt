@@ -10,22 +10,14 @@ use crate::model::PAGE_BYTES;
 // What a place is sent, if anything.
 type Cover = [Option<u8>; PAGE_BYTES];
 
-// The bytes of a slice are bytes: what a `Vec` that is handed over is known by.
-pub(crate) fn are_bytes(bytes: &[u8])
-    requires { 0 < length bytes.now }
-    ensures { (i : ℕ) → slice_index bytes.now i < 256 }
-{
-    let _first = bytes[0];
-}
-
 // Reads from an address on, rolling over after the last byte.
 pub(crate) fn roll(image: &[u8], address: usize, into: &mut [u8])
     requires { 0 < length image.now }
     ensures { into.new ≡ rolled image.now address (length into.old) }
 {
     let mut at = address % image.len();
-    for i in 0..into.len() {
-        into[i] = image[at];
+    for byte in into.iter_mut() {
+        *byte = image[at];
         at = if at + 1 == image.len() { 0 } else { at + 1 };
     }
 }
@@ -40,20 +32,14 @@ fn left(kind: Kind, old: u8, sent: u8) -> u8
     }
 }
 
-fn nothing_sent() -> Cover
-    ensures { result ≡ cover 64 0 [] }
-{
-    [None; PAGE_BYTES]
-}
-
 // The data come round at the page's end, and a later byte takes an earlier one's place.
 fn lay(at: usize, sent: &[u8]) -> Cover
     requires { at < 64 }
     ensures { result ≡ cover 64 at sent.now }
 {
-    let mut places = nothing_sent();
-    for i in 0..sent.len() {
-        places[(at + i % PAGE_BYTES) % PAGE_BYTES] = Some(sent[i]);
+    let mut places = [None; PAGE_BYTES];
+    for (i, byte) in sent.iter().enumerate() {
+        places[(at + i) % PAGE_BYTES] = Some(*byte);
     }
     places
 }
@@ -62,9 +48,9 @@ fn merge(kind: Kind, bytes: &mut [u8], sent: &Cover)
     requires { length bytes.old ≡ 64 }
     ensures { bytes.new ≡ merged (rule kind) bytes.old sent.now }
 {
-    for i in 0..bytes.len() {
-        if let Some(b) = sent[i] {
-            bytes[i] = left(kind, bytes[i], b);
+    for (i, byte) in bytes.iter_mut().enumerate() {
+        if let Some(sent) = sent[i] {
+            *byte = left(kind, *byte, sent);
         }
     }
 }

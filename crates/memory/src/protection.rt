@@ -1,10 +1,58 @@
-// Which sectors the status byte protects.
-ghost use Rattle.std.specs.Prelude.{◌≡◌};
-ghost use Rattle.memory.specs.Protection.{protects};
+// The status byte, and which sectors it protects.
+ghost use Rattle.std.specs.Prelude.{◌≡◌, ℕ, ◌-◌, ◌%◌, ◌<◌, true, false, ◌==◌, bit_and, MatchOption};
+ghost use Rattle.memory.specs.Protection.{at_rest, free, protects};
 
 const TB: u8 = 0x20;
 
 const BP3: u8 = 0x40;
+
+// BP3 and BP2 to BP0
+const BLOCK_PROTECT: u8 = 0x5C;
+
+const SRWD: u8 = 0x80;
+
+// Bits 7 to 2 of a status byte.
+#[derive(Clone, Copy, PartialEq, Eq, Debug)]
+pub struct Status {
+    pub bits: u8,
+    ghost steady: { bits % 4 ≡ 0 },
+    ghost byte: { bits < 256 },
+}
+
+impl Status {
+    // A status byte at rest, with bit 7 set and bits 1 and 0 clear. Another is none.
+    pub fn new(byte: u8) -> Option<Status>
+        ensures { MatchOption result (at_rest byte ≡ false) (λ s. (at_rest byte ≡ true) × (s.bits ≡ byte)) }
+    {
+        if byte < SRWD || byte % 4 != 0 {
+            return None;
+        }
+        Some(Status { bits: byte })
+    }
+
+    // What a status byte has in bits 7 to 2.
+    pub fn masked(byte: u8) -> Status
+        ensures { result.bits ≡ byte - byte % 4 }
+    {
+        Status {
+            bits: byte - byte % 4,
+        }
+    }
+
+    pub fn protects(self, sectors: usize, sector: usize) -> bool
+        ensures { result ≡ protects self.bits sectors sector }
+    {
+        is_protected(self.bits, sectors, sector)
+    }
+
+    // If no sector is protected, however many there are.
+    pub fn protects_none(self) -> bool
+        ensures bits { result ≡ (bit_and self.bits 0x5C == 0) }
+        ensures free { (sectors : ℕ) → 0 < sectors → result ≡ free (protects self.bits sectors) sectors }
+    {
+        self.bits & BLOCK_PROTECT == 0
+    }
+}
 
 pub fn is_protected(status: u8, sectors: usize, sector: usize) -> bool
     ensures { result ≡ protects status sectors sector }
@@ -32,14 +80,11 @@ mod tests {
     struct Row(u8, usize, usize);
 
     fn holds(sectors: usize, rows: &[Row]) -> bool {
-        for row in rows {
-            for sector in 0..sectors {
-                if is_protected(row.0, sectors, sector) != (row.1 <= sector && sector < row.2) {
-                    return false;
-                }
-            }
-        }
-        true
+        rows.iter().all(|row| {
+            (0..sectors).all(|sector| {
+                is_protected(row.0, sectors, sector) == (row.1 <= sector && sector < row.2)
+            })
+        })
     }
 
     // The data sheet's table for the 32Mb chip.

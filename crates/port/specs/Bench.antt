@@ -12,7 +12,7 @@ use Rattle.port.specs.declared.fault.Making.TheVariants.{Geometry, Length, Statu
 use Rattle.port.specs.Chip.{Chip}
 
 abbrev pub chip_of : BenchChip → Chip
-chip_of b = record { capacity = b.capacity; image = bytes_of b.image; status = b.status; latch = b.latch; busy = b.busy }
+chip_of b = record { capacity = b.capacity; image = bytes_of b.image; status = b.status.bits; latch = b.latch; busy = b.busy }
 
 -- an image that cannot be made cannot be a chip's
 abbrev pub imaging : ImageFault → Making

@@ -1,4 +1,5 @@
 pub mod Instructions
+pub mod Operations
 pub mod Chip
 pub mod Machine
 pub mod Rows

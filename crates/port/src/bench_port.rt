@@ -1,16 +1,15 @@
 // The bench chip is a port.
 ghost use Rattle.std.specs.Prelude.{◌≡◌, ℕ, length, is_ok, if◌then◌else◌, refl};
-ghost use Rattle.std.proofs.Common.{◌∙◌, sym, subst, lit≤};
+ghost use Rattle.std.proofs.Common.{◌∙◌, sym, ap, subst, lit≤};
 ghost use Rattle.port.specs.Machine.{Runs, after, answer, frame, verdict, none};
 ghost use Rattle.port.specs.Bench.{chip_of};
 ghost use Rattle.memory.specs.Shape.{size};
 ghost use Rattle.memory.specs.Models.{shape_for};
-ghost use Rattle.memory.proofs.Models.{page-bytes};
 ghost use Rattle.port.specs.Settled.{runs-++};
 
 use crate::bench::BenchChip;
 use crate::decode::{decode, hear};
-use crate::fault::PortFault;
+use crate::fault::{PortFault, check_length};
 use crate::port::Port;
 
 const LONGEST: usize = 320;
@@ -24,9 +23,7 @@ impl BenchChip {
         ensures chip { chip_of self.new ≡ (if is_ok result then after self.old.number (chip_of self.old) (frame sent.now (length back.old)) else chip_of self.old) }
         ensures number { self.new.number ≡ self.old.number }
     {
-        if sent.len() > LONGEST || back.len() > LONGEST - sent.len() {
-            return Err(PortFault::TooLong(LONGEST));
-        }
+        check_length(LONGEST, sent.len(), back.len())?;
         let order = hear(self.busy, self.image.len(), decode(sent, back.len()));
         self.reply(order, back);
         self.act(order);
@@ -43,13 +40,11 @@ impl Port for BenchChip {
     ghost trace = { λ a b l. Runs a.number (chip_of a) l (chip_of b) × (a.number ≡ b.number) };
 
     ghost sound = { λ s.
-        let z = page-bytes s.capacity in
         let w : length s.image.bytes.items ≡ size (shape_for s.capacity) =
         let v = s.image.bytes.ok.0 in
         let i = s.image.sized in
-        let x = s.sectored in
-        let y = s.paged in cc in
-        (record { known = s.known; imaged = record { whole = w; bytes = s.image.byte }; steady = s.steady; byte = s.byte }, lit≤ tt) };
+        let x = ap size s.fitted in cc in
+        (record { known = s.known; imaged = record { whole = w; bytes = s.image.byte }; steady = s.status.steady; byte = s.status.byte }, lit≤ tt) };
 
     ghost stays = { λ s. (none, refl) };
 

@@ -4,7 +4,7 @@ ghost use Rattle.std.proofs.Common.{◌∙◌, rules};
 ghost use Rattle.port.specs.Bus.{OnSide, by_side};
 ghost use Rattle.port.specs.Sides.{on_side};
 
-use crate::fault::PortFault;
+use crate::fault::{PortFault, check_length};
 use crate::port::Port;
 
 #[derive(Clone, Copy, PartialEq, Eq, Debug)]
@@ -35,12 +35,7 @@ impl<L, R> Bus<L, R> {
     pub fn release(self) -> (L, R)
         ensures { (result.0 ≡ self.first) × (result.1 ≡ self.second) }
     {
-        let Bus {
-            first,
-            second,
-            chosen: _,
-        } = self;
-        (first, second)
+        (self.first, self.second)
     }
 }
 
@@ -67,10 +62,7 @@ impl<L: Port, R: Port> Port for Bus<L, R> {
     }
 
     fn exchange(&mut self, sent: &[u8], back: &mut [u8]) -> Result<(), PortFault> {
-        let longest = self.longest_frame();
-        if sent.len() > longest || back.len() > longest - sent.len() {
-            return Err(PortFault::TooLong(longest));
-        }
+        check_length(self.longest_frame(), sent.len(), back.len())?;
         match self.chosen {
             Side::First => self.first.exchange(sent, back),
             Side::Second => self.second.exchange(sent, back),

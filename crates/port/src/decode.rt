@@ -10,7 +10,7 @@ use memory::kind::Kind;
 fn address_of(a2: u8, a1: u8, a0: u8) -> usize
     ensures { result ≡ a2 * 65536 + a1 * 256 + a0 }
 {
-    a2 as usize * 65536 + a1 as usize * 256 + a0 as usize
+    u32::from_be_bytes([0, a2, a1, a0]) as usize
 }
 
 // What an instruction asks at an address, with data.
@@ -35,13 +35,12 @@ fn mean<'a>(operation: Operation, address: usize, data: &'a [u8]) -> Order<'a>
 fn shape<'a>(code: u8, after: usize, wanted: usize, address: usize, data: &'a [u8]) -> Order<'a>
     ensures { said result ≡ shaped_by (lookup table code) after wanted address «data».now }
 {
-    let Some(instruction) = Instruction::find(code) else {
-        return Order::Unknown;
-    };
-    if !instruction.fits(after, wanted) {
-        return Order::Unknown;
+    match Instruction::find(code) {
+        Some(instruction) if instruction.fits(after, wanted) => {
+            mean(instruction.operation, address, data)
+        }
+        _ => Order::Unknown,
     }
-    mean(instruction.operation, address, data)
 }
 
 // What a frame asks, if so many bytes are wanted back.

@@ -1,4 +1,11 @@
 // Why a port refuses. specs/Rows.antt gives each case its layer, number and values.
+ghost use Rattle.std.specs.Prelude.{◌≡◌, ◌+◌, if◌then◌else◌, Ok, Err, nat_le};
+ghost use Rattle.port.specs.declared.fault.PortFault.TheVariants.{TooLong};
+ghost use Rattle.port.specs.Bench.{imaging};
+ghost use Rattle.port.specs.Rows.{making_row, row};
+
+use memory::image::ImageFault;
+use memory::report::{Layer, Report, Reported};
 
 #[derive(Clone, Copy, PartialEq, Eq, Debug)]
 pub enum PortFault {
@@ -6,15 +13,55 @@ pub enum PortFault {
     TooLong(usize),
 }
 
+// Refuses a frame of so many bytes sent and so many wanted back if they are more than the longest frame.
+pub(crate) fn check_length(longest: usize, sent: usize, wanted: usize) -> Result<(), PortFault>
+    ensures { result ≡ (if nat_le (sent + wanted) longest then Ok tt else Err (TooLong longest)) }
+{
+    if sent > longest || wanted > longest - sent {
+        return Err(PortFault::TooLong(longest));
+    }
+    Ok(())
+}
+
+impl Reported for PortFault {
+    ghost row = { row };
+
+    fn report(self) -> Report {
+        match self {
+            PortFault::TooLong(longest) => Report::one(Layer::Port, 10, longest),
+        }
+    }
+}
+
 // Why a bench chip cannot be made.
 #[derive(Clone, Copy, PartialEq, Eq, Debug)]
 pub enum Making {
     // no chip has this capacity byte
-    Geometry,
+    Geometry = 1,
     // the image is not as long as the chip
-    Length,
+    Length = 2,
     // bit 7 is clear, or bit 1 or 0 is set
-    Status,
+    Status = 3,
     // over 4,096
-    Busy,
+    Busy = 4,
+}
+
+// An image that cannot be made cannot be a chip's.
+impl From<ImageFault> for Making {
+    ghost from_gives = { λ old new. new ≡ imaging old };
+
+    fn from(fault: ImageFault) -> Making {
+        match fault {
+            ImageFault::Geometry => Making::Geometry,
+            ImageFault::Length => Making::Length,
+        }
+    }
+}
+
+impl Reported for Making {
+    ghost row = { making_row };
+
+    fn report(self) -> Report {
+        Report::one(Layer::Port, 13, self as usize)
+    }
 }

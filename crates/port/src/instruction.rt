@@ -1,6 +1,9 @@
 // The chip's instructions, as one table that the chip machine and the frame builder read.
 ghost use Rattle.std.specs.Prelude.{◌≡◌};
 ghost use Rattle.port.specs.Instructions.{allows, fits, lookup, table};
+ghost use Rattle.port.specs.Operations.{operation_of};
+
+use memory::kind::Kind;
 
 #[derive(Clone, Copy, PartialEq, Eq, Debug)]
 pub enum Operation {
@@ -15,6 +18,21 @@ pub enum Operation {
     Preset,
     SectorErase,
     BulkErase,
+}
+
+// What sends a cycle of a kind.
+impl From<Kind> for Operation {
+    ghost from_gives = { λ old new. new ≡ operation_of old };
+
+    fn from(kind: Kind) -> Operation {
+        match kind {
+            Kind::Program => Operation::Program,
+            Kind::Alter => Operation::Alter,
+            Kind::Preset => Operation::Preset,
+            Kind::SectorErase => Operation::SectorErase,
+            Kind::BulkErase => Operation::BulkErase,
+        }
+    }
 }
 
 // How many bytes back a frame may want.
@@ -147,12 +165,10 @@ impl Instruction {
     pub fn find(code: u8) -> Option<Instruction>
         ensures { result ≡ lookup table code }
     {
-        for instruction in TABLE.iter() {
-            if instruction.code == code {
-                return Some(*instruction);
-            }
-        }
-        None
+        TABLE
+            .iter()
+            .find(|instruction| instruction.code == code)
+            .copied()
     }
 
     // If a frame has the instruction's shape: so many bytes after its code, and so many wanted back.

@@ -3,35 +3,23 @@ ghost use Rattle.std.specs.Prelude.{◌≡◌, true, length, Some, None, vec_len
 ghost use Rattle.memory.specs.Cycle.{cycle_of};
 ghost use Rattle.memory.specs.Image.{bytes_of};
 ghost use Rattle.port.specs.Machine.{Within, act, identify, opens, reply, said, shown, takes};
-ghost use Rattle.port.specs.Bench.{chip_of, fresh, imaging, unmade};
+ghost use Rattle.port.specs.Bench.{chip_of, fresh, unmade};
 
 use crate::bench::BenchChip;
 use crate::fault::Making;
 use crate::order::Order;
 use memory::bytes::fill;
-use memory::image::{Image, ImageFault};
+use memory::geometry::Geometry;
+use memory::image::{Image, Unmade};
 use memory::kind::Kind;
-use memory::model::{Model, PAGE_BYTES};
-use memory::protection::is_protected;
+use memory::model::Model;
+use memory::protection::Status;
 
 const MOST_BUSY: usize = 4096;
-
-const SRWD: u8 = 0x80;
-
-const BLOCK_PROTECT: u8 = 0x5C;
 
 const MAKER: u8 = 0x20;
 
 const MEMORY_TYPE: u8 = 0xDA;
-
-fn making(fault: ImageFault) -> Making
-    ensures { result ≡ imaging fault }
-{
-    match fault {
-        ImageFault::Geometry => Making::Geometry,
-        ImageFault::Length => Making::Length,
-    }
-}
 
 impl BenchChip {
     // A chip of the model with this capacity byte, over the caller's bytes, which are handed back on refusal.
@@ -40,23 +28,30 @@ impl BenchChip {
         image: Vec<u8>,
         status: u8,
         number: usize,
-    ) -> Result<BenchChip, (Making, Vec<u8>)>
+    ) -> Result<BenchChip, Unmade<Making>>
         ensures { MatchResult result
             (λ b. (unmade capacity (vec_len image) status number ≡ None) × (chip_of b ≡ fresh capacity image.items status) × (b.image.bytes ≡ image) × (b.number ≡ number))
-            (λ e. (unmade capacity (vec_len image) status number ≡ Some e.0) × (e.1 ≡ image)) }
+            (λ e. (unmade capacity (vec_len image) status number ≡ Some e.fault) × (e.bytes ≡ image)) }
     {
         let Some(model) = Model::find(capacity) else {
-            return Err((Making::Geometry, image));
+            return Err(Unmade {
+                fault: Making::Geometry,
+                bytes: image,
+            });
         };
-        let image = match Image::new(model.sectors, model.pages, image) {
-            Ok(image) => image,
-            Err((fault, image)) => return Err((making(fault), image)),
+        let Geometry { sectors, pages } = model.geometry;
+        let image = Image::new(sectors, pages, image).map_err(|unmade| unmade.convert())?;
+        let Some(status) = Status::new(status) else {
+            return Err(Unmade {
+                fault: Making::Status,
+                bytes: image.into_bytes(),
+            });
         };
-        if status < SRWD || status % 4 != 0 {
-            return Err((Making::Status, image.into_bytes()));
-        }
         if number > MOST_BUSY {
-            return Err((Making::Busy, image.into_bytes()));
+            return Err(Unmade {
+                fault: Making::Busy,
+                bytes: image.into_bytes(),
+            });
         }
         Ok(BenchChip {
             capacity,
@@ -72,15 +67,7 @@ impl BenchChip {
     pub fn into_image(self) -> Vec<u8>
         ensures { result ≡ self.image.bytes }
     {
-        let BenchChip {
-            capacity: _,
-            image,
-            status: _,
-            latch: _,
-            busy: _,
-            number: _,
-        } = self;
-        image.into_bytes()
+        self.image.into_bytes()
     }
 
     // Bit 1 shows 0 while busy.
@@ -88,11 +75,11 @@ impl BenchChip {
         ensures { result ≡ shown 0 (chip_of self.now) }
     {
         if self.busy > 0 {
-            self.status + 1
+            self.status.bits + 1
         } else if self.latch {
-            self.status + 2
+            self.status.bits + 2
         } else {
-            self.status
+            self.status.bits
         }
     }
 
@@ -127,8 +114,9 @@ impl BenchChip {
     fn is_open(&self, address: usize) -> bool
         ensures { result ≡ opens (chip_of self.now) address }
     {
-        let sector = address / PAGE_BYTES / self.image.pages;
-        self.latch && !is_protected(self.status, self.image.sectors, sector)
+        let geometry = self.image.geometry;
+        let sector = geometry.sector_of(address);
+        self.latch && !self.status.protects(geometry.sectors, sector)
     }
 
     // If the chip carries out the cycle.
@@ -138,7 +126,7 @@ impl BenchChip {
         match kind {
             Kind::Program | Kind::Alter | Kind::SectorErase => self.is_open(address),
             Kind::Preset => self.is_open(address) && self.image.is_page_blank(address),
-            Kind::BulkErase => self.latch && self.status & BLOCK_PROTECT == 0,
+            Kind::BulkErase => self.latch && self.status.protects_none(),
         }
     }
 

@@ -1,16 +1,16 @@
-use Rattle.std.proofs.Common.{sym, ◌∙◌, arith}
-use Rattle.std.proofs.lemmas.List.{at_drop_more, at_drop_all}
-use Rattle.std.proofs.lemmas.Bool.Decides.{nat_tests}
+use Rattle.std.proofs.Common.{◌≡◌, ℕ, List, [], ◌∷◌, ◌&&◌, eqb, refl, ap, ◌∙◌, rules}
+use borrow.Author.Tests.{tests}
+use Rattle.std.specs.List.{list_all}
+use Rattle.std.proofs.lemmas.Iterator.{YieldsList-from_slice}
+use Rattle.std.proofs.lemmas.Iterator.Search.{all_from_yields_List}
 use Rattle.memory.specs.Page.{blank}
 use Rattle.memory.proofs.bytes.is_blank.Goals as goal
 
-pub returns-then-x : goal.returns-then-x
-returns-then-x c =
-    let e = at_drop_more blank c.args.bytes.now c.loop-x.x-index 0 (omega arith) in grind (arith, nat_tests)
-
-pub loop-x-preserved : goal.loop-x-preserved
-loop-x-preserved c =
-    let e = at_drop_more blank c.args.bytes.now c.loop-x.x-index 0 (omega arith) in grind (arith, nat_tests)
+all_blank : (xs : List ℕ) → list_all (λ x. eqb x 255) xs ≡ blank xs
+all_blank [] = refl
+all_blank (x ∷ xs) = ap (λ b. eqb x 255 && b) (all_blank xs)
 
 pub returns : goal.returns
-returns c = sym (c.loop-x.invariant ∙ at_drop_all blank c.args.bytes.now c.loop-x.x-index (omega arith))
+returns c =
+    all_from_yields_List (λ x. eqb x 255) _ _ _ c.all.ensures.ran (YieldsList-from_slice c.args.bytes.now cc) (λ x b q k. search (rules, tests))
+    ∙ all_blank c.args.bytes.now

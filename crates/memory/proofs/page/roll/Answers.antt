@@ -5,24 +5,24 @@ use Rattle.std.proofs.lemmas.List.{take_all, append-nil}
 use Rattle.memory.proofs.Loops.{roll_more, rolled_none, next_round}
 use Rattle.memory.proofs.page.roll.Goals as goal
 
-pub loop-i-preserved : goal.loop-i-preserved
-loop-i-preserved c =
+pub loop-byte-preserved : goal.loop-byte-preserved
+loop-byte-preserved c =
     let image = c.args.image.now in
-    let n = length c.loop-i.into in
-    let i = c.loop-i.i in
-    let v = get_or image c.loop-i.at 0 in
-    let at = c.loop-i.invariant.0 in
-    let m = roll_more image c.loop-i.into c.args.address i n v (omega arith) refl (ap (λ x. get_or image x 0) at) in
-    let l = length-set c.loop-i.into i v in
-    (round, (cc c.loop-i.invariant.1))
+    let n = length c.loop-byte.into in
+    let i = c.loop-byte.byte-index in
+    let v = get_or image c.loop-byte.at 0 in
+    let at = c.loop-byte.invariant.0 in
+    let m = roll_more image c.loop-byte.into c.args.address i n v (omega arith) refl (ap (λ x. get_or image x 0) at) in
+    let l = length-set c.loop-byte.into i v in
+    (round, (cc c.loop-byte.invariant.1))
   where
-    round : c.if-at-image.at ≡ (c.args.address + (c.loop-i.i + 1)) % length c.args.image.now
+    round : c.if-at-image.at ≡ (c.args.address + (c.loop-byte.byte-index + 1)) % length c.args.image.now
     round =
-        let n = next_round (c.args.address + c.loop-i.i) (length c.args.image.now) c.loop-i.at c.requires c.loop-i.invariant.0 in
-        let e : c.args.address + c.loop-i.i + 1 ≡ c.args.address + (c.loop-i.i + 1) = omega arith in
+        let n = next_round (c.args.address + c.loop-byte.byte-index) (length c.args.image.now) c.loop-byte.at c.requires c.loop-byte.invariant.0 in
+        let e : c.args.address + c.loop-byte.byte-index + 1 ≡ c.args.address + (c.loop-byte.byte-index + 1) = omega arith in
         came ∙ n ∙ ap (λ x. x % length c.args.image.now) e
       where
-        came : c.if-at-image.at ≡ cond (eqb (c.loop-i.at + 1) (length c.args.image.now)) 0 (c.loop-i.at + 1)
+        came : c.if-at-image.at ≡ cond (eqb (c.loop-byte.at + 1) (length c.args.image.now)) 0 (c.loop-byte.at + 1)
         came = elim c.if-at-image.branch [
           | then-at-image w ↦ w.at-is ∙ sym (cond-true _ _ _ (eq-eqb _ _ w.if-at-image.true))
           | else-at-image w ↦ w.at-is ∙ sym (cond-false _ _ _ (ne_eqb _ _ w.if-at-image.false))
@@ -30,9 +30,9 @@ loop-i-preserved c =
 
 pub returns : goal.returns
 returns c =
-    let n = length c.loop-i.into in
-    let i = c.loop-i.i in
-    let t = take_all i c.loop-i.into (omega arith) in
+    let n = length c.loop-byte.into in
+    let i = c.loop-byte.byte-index in
+    let t = take_all i c.loop-byte.into (omega arith) in
     let f = rolled_none c.args.image.now (c.args.address + i) (n - i) (omega arith) in
-    let g = append-nil c.loop-i.into in
+    let g = append-nil c.loop-byte.into in
     let k : n ≡ length c.args.into.now = omega arith in cc

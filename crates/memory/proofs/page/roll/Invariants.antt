@@ -2,7 +2,7 @@ use Rattle.std.proofs.Common.{◌≡◌, ◌+◌, ◌-◌, ◌%◌, ◌++◌, le
 use Rattle.memory.specs.Image.{rolled}
 use Rattle.memory.proofs.page.roll.Given as goal
 
-abbrev pub invariant-loop-i : goal.invariant-loop-i
-invariant-loop-i l =
-    (l.at ≡ (l.address + l.i) % length l.image)
-    × (take l.i l.into ++ rolled l.image (l.address + l.i) (length l.into - l.i) ≡ rolled l.image l.address (length l.into))
+abbrev pub invariant-loop-byte : goal.invariant-loop-byte
+invariant-loop-byte l =
+    (l.at ≡ (l.address + l.byte-index) % length l.image)
+    × (take l.byte-index l.into ++ rolled l.image (l.address + l.byte-index) (length l.into - l.byte-index) ≡ rolled l.image l.address (length l.into))

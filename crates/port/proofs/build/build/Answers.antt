@@ -1,20 +1,19 @@
-use Rattle.std.proofs.Common.{◌≡◌, ◌+◌, ◌-◌, ◌<◌, ◌≤◌, ◌++◌, length, take, drop, Ok, sym, refl, ap, ◌∙◌, ap₂, arith}
-use Rattle.std.proofs.lemmas.Bool.{cond-true, cond-false, le-leb, lt-leb}
+use Rattle.std.proofs.Common.{◌≡◌, ◌+◌, ◌-◌, ◌++◌, length, take, drop, sym, ap, ◌∙◌, ap₂, arith}
+use Rattle.std.proofs.lemmas.Bool.Decides.{nat_tests}
 use Rattle.port.specs.Build.{built, headed, carried_by}
-use Rattle.port.proofs.Building.{understood, built_is, length-built, carried-part}
+use Rattle.port.proofs.Building.{address_most, understood, built_is, length-built, carried-part}
 use Rattle.port.proofs.build.build.Goals as goal
-use Rattle.port.proofs.build.build.Goals.{then-head-into-via-then-head-into, then-head-into-via-else-head-into+then-n-into}
 
-pub returns-then-head-into : goal.returns-then-head-into
-returns-then-head-into c =
+pub lay_out-requires-clause-address : goal.lay_out-requires-clause-address
+lay_out-requires-clause-address c = let a = address_most c.args.operation c.of-row.result c.of-row.ensures in omega arith
+
+pub returns-in_err-check_length-clause-result : goal.returns-in_err-check_length-clause-result
+returns-in_err-check_length-clause-result c =
     let l = length-built c.args.operation c.of-row.result c.args.address c.args.data.now c.of-row.ensures in
-    let n = c.carried-n.ensures in
-    let long : length c.args.into.now < length (built c.args.operation c.args.address c.args.data.now) =
-    elim c.then-head-into.branch [
-      | then-head-into-via-then-head-into w ↦ omega (arith, w.if-head-into.true)
-      | then-head-into-via-else-head-into+then-n-into w ↦ omega (arith, w.if-n-into.true)
-    ] in
-    record { result = sym (cond-false _ _ _ (lt-leb _ _ long)); bytes = refl; understood = understood }
+    let n = c.carried-n.ensures in grind (arith, nat_tests)
+
+pub returns-in_err-check_length-clause-understood : goal.returns-in_err-check_length-clause-understood
+returns-in_err-check_length-clause-understood c = understood
 
 pub returns : goal.returns
 returns c =
@@ -25,13 +24,12 @@ returns c =
     let b = built_is c.args.operation i c.args.address s c.of-row.ensures in
     let l = length-built c.args.operation i c.args.address s c.of-row.ensures in
     let n = c.carried-n.ensures in
-    let short : length f ≤ length into = omega arith in
     let e : 1 + i.address + i.dummy + c.carried-n.result ≡ length f = omega arith in
     let part = take (c.carried-n.result - 0) (drop 0 s) in
     let t : part ≡ carried_by i.carries s = carried-part i.carries s c.carried-n.result n in
     let k : 1 + i.address + i.dummy + length part ≡ 0 + length f = ap (λ x. 1 + i.address + i.dummy + length x) t ∙ omega arith in
     record {
-      result = ap Ok e ∙ sym (cond-true _ _ _ (le-leb _ _ short));
+      result = grind (arith, nat_tests);
       bytes = c.lay_out.ensures ∙ ap₂ (λ x y. x ++ drop y into) (ap (headed i c.args.address) t ∙ sym b) k;
       understood = understood;
     }

@@ -1,24 +1,33 @@
-use Rattle.std.proofs.Common.{◌≡◌, ℕ, ◌+◌, ◌<◌, List, length, get_or, drop, Some, sym, ◌∙◌}
-use Rattle.std.proofs.lemmas.List.{drop_more, at_drop_all}
-use Rattle.std.proofs.lemmas.Bool.{eq-eqb, ne_eqb, cond-true, cond-false}
+use Rattle.std.proofs.Common.{◌≡◌, ℕ, ◌*◌, ◌<◌, ◌≤◌, List, [], ◌∷◌, Some, cond, eqb, refl, ap, ap₂, ◌∙◌, rules}
+use borrow.Author.Tests.{tests}
+use Rattle.std.specs.Coded.{le_prop}
+use Rattle.std.specs.List.{find}
+use Rattle.std.proofs.lemmas.Iterator.{YieldsList-from_slice}
+use Rattle.std.proofs.lemmas.Iterator.Search.{find_from_yields_List}
 use Rattle.memory.specs.declared.model.Model.{Model}
-use Rattle.memory.specs.Models.{models, lookup}
+use Rattle.memory.specs.Models.{models, model, lookup}
 use Rattle.memory.proofs.model.Model.find.Goals as goal
 
-here : (t : List Model) (i c : ℕ) (d : Model) → i < length t → (get_or t i d).capacity ≡ c → lookup (drop i t) c ≡ Some (get_or t i d)
-here t i c d h e = rw (drop_more t i d) (cond-true _ _ _ (eq-eqb _ _ e))
+find_looks : (ms : List Model) (c : ℕ) → find (λ m. eqb m.capacity c) ms ≡ lookup ms c
+find_looks [] c = refl
+find_looks (m ∷ ms) c = ap (cond (eqb m.capacity c) (Some m)) (find_looks ms c)
 
-past : (t : List Model) (i c : ℕ) (d : Model) → i < length t → ((get_or t i d).capacity ≡ c → ⊥) → lookup (drop i t) c ≡ lookup (drop (i + 1) t) c
-past t i c d h n = rw (drop_more t i d) (cond-false _ _ _ (ne_eqb _ _ n))
-
-pub returns-then-model-capacity : goal.returns-then-model-capacity
-unfolding models
-returns-then-model-capacity c = sym (c.loop-model.invariant ∙ here models _ _ _ c.loop-model-test.true c.if-model-capacity.true)
-
-pub loop-model-preserved : goal.loop-model-preserved
-unfolding models
-loop-model-preserved c = c.loop-model.invariant ∙ past models _ _ _ c.loop-model-test.true c.if-model-capacity.false
+-- a model is its numbers: their bounds have one proof each
+same : (c s p : ℕ) (a a' : 0 < s) (b b' : s ≤ 128) (d d' : 0 < p) (e e' : p ≤ 2048) (f f' : s * p ≤ 262144)
+    → model c s p a b d e f ≡ model c s p a' b' d' e' f'
+same c s p a a' b b' d d' e e' f f' =
+    ap (λ x. model c s p x b d e f) (le_prop a a')
+    ∙ (ap (λ x. model c s p a' x d e f) (le_prop b b')
+    ∙ (ap (λ x. model c s p a' b' x e f) (le_prop d d')
+    ∙ (ap (λ x. model c s p a' b' d' x f) (le_prop e e') ∙ ap (λ x. model c s p a' b' d' e' x) (le_prop f f'))))
 
 pub returns : goal.returns
 unfolding models
-returns c = sym (c.loop-model.invariant ∙ at_drop_all (λ l. lookup l c.args.capacity) models _ c.loop-model-test.false)
+returns c =
+    let t : c.iter.result.rest.now ≡ models =
+    c.iter.ensures.rest
+    ∙ ap₂ (λ x xs. x ∷ xs) (same _ _ _ _ _ _ _ _ _ _ _ _ _) (ap₂ (λ x xs. x ∷ xs) (same _ _ _ _ _ _ _ _ _ _ _ _ _)
+    (ap₂ (λ x xs. x ∷ xs) (same _ _ _ _ _ _ _ _ _ _ _ _ _) (ap₂ (λ x xs. x ∷ xs) (same _ _ _ _ _ _ _ _ _ _ _ _ _) refl))) in
+    c.copied.ensures
+    ∙ find_from_yields_List (λ (m : Model). eqb m.capacity c.args.capacity) _ _ c.find.result c.find.ensures.ran (YieldsList-from_slice models t) (λ x b q k. search (rules, tests))
+    ∙ find_looks models c.args.capacity
