@@ -22,26 +22,14 @@ use Rattle.part.specs.Verdict.{inside, fills, permits, presets, idle}
 use Rattle.part.proofs.Refusals.{reaches_in}
 use Rattle.driver.specs.Frames.{Sendable, status_frame, enable_frame, cycle_frame, looks}
 use Rattle.driver.specs.Carries.{Carries, Harmless, none, step, status_reads, carried_out}
-use Rattle.driver.specs.Driving.{Drives, Intact, Quiet, seen, fitted}
+use Rattle.driver.specs.Driving.{Drives, Intact, Quiet, seen}
 use Rattle.driver.specs.Hearing.{one-status, status-heard, after-status}
-use Rattle.driver.specs.Seeing.{seen_outline, seen-image, chip_long}
+use Rattle.driver.specs.Seeing.{seen_outline, chip_long}
 use Rattle.driver.specs.Sending.{sendable, frames_no_status, sent-done, sent-carries, takes_in, looks_carry, looks_no_status}
 
 -- the outline with polls due, or with none
 abbrev pub with_busy : Bool → Outline → Outline
-with_busy b o = record {
-  sectors = o.sectors;
-  pages = o.pages;
-  status = o.status;
-  busy = b;
-  some = o.some;
-  few = o.few;
-  paged = o.paged;
-  low = o.low;
-  small = o.small;
-  steady = o.steady;
-  byte = o.byte;
-}
+with_busy b o = record { geometry = o.geometry; status = o.status; busy = b }
 
 longer : (a c : Chip) (f : Frame) (fs : List Frame) (ys zs : List Cycle) (k : ℕ) → Carries (after k a f) fs c (ys ++ zs)
     → Carries a (f ∷ fs) c ((carried_out a (hears a f) ++ ys) ++ zs)
@@ -84,7 +72,7 @@ both_harmless a b c fs gs p q =
 
 -- nothing was done
 pub drives_none : (o : Outline) (c : Chip) → Drives o c [] o c []
-drives_none o c = record { polls = refl; shape = refl; status = refl; carries = λ _. none; intact = λ i. i; harmless = λ _. (refl, tt) }
+drives_none o c = record { polls = refl; shape = refl; status = refl; carries = none; harmless = λ _. (refl, tt) }
 
 pub drives-++ : (o p q : Outline) (a b c : Chip) (fs gs : List Frame) (l m : List Event) → Drives o a fs p b l → Drives p b gs q c m → Drives o a (fs ++ gs) q c (l ++ m)
 drives-++ o p q a b c fs gs l m x y =
@@ -97,23 +85,24 @@ drives-++ o p q a b c fs gs l m x y =
       polls = omega arith;
       shape = y.shape ∙ x.shape;
       status = y.status ∙ x.status;
-      carries = λ i. subst P (sym (cycles-++ l m)) (carries-++ (x.carries i) (y.carries (x.intact i)));
-      intact = λ i. y.intact (x.intact i);
+      carries = subst P (sym (cycles-++ l m)) (carries-++ x.carries y.carries);
       harmless = λ n. let q = quiet_parts l m n in both_harmless a b c fs gs (x.harmless q.0) (y.harmless q.1);
     }
+
+-- what is remembered is true of the same chip
+pub same-intact : (o : Outline) (c d : Chip) → d ≡ c → Intact o c → Intact o d
+same-intact o c d e i = let I : Chip → Type 0 = λ x. Intact o x in subst I (sym e) i
 
 -- frames that do nothing, for events that do nothing
 pub drives_quiet : (o : Outline) (c d : Chip) (fs : List Frame) (es : List Event) → d ≡ c → Carries c fs c [] → Harmless c fs → status_reads fs ≡ 0 → polls es ≡ 0 → cycles es ≡ [] → Drives o c fs o d es
 drives_quiet o c d fs es e q h s p y =
     let P : Chip → Type 0 = λ x. Carries c fs x (cycles es) in
     let Q : List Cycle → Type 0 = λ x. Carries c fs c x in
-    let I : Chip → Type 0 = λ x. Intact o x in
     record {
       polls = s ∙ sym p;
       shape = refl;
       status = refl;
-      carries = λ _. subst P (sym e) (subst Q (sym y) q);
-      intact = λ i. subst I (sym e) i;
+      carries = subst P (sym e) (subst Q (sym y) q);
       harmless = λ _. (e, h);
     }
 
@@ -122,20 +111,23 @@ still : (b : Bool) (n : ℕ) → (b ≡ false → n ≡ 0) → (b && not (n == 0
 still true n h e = let z = eqb-true n 0 (not-false _ e) in omega arith
 still false n h e = let z = h refl in omega arith
 
-pub drives_poll : (o p : Outline) (c d : Chip) → outlined p ≡ outlined o → p.status ≡ o.status → p.busy ≡ (o.busy && not (c.busy == 0)) → d ≡ waited c
+pub drives_poll : (o p : Outline) (c d : Chip) → outlined p ≡ outlined o → p.status.bits ≡ o.status.bits → p.busy ≡ (o.busy && not (c.busy == 0)) → d ≡ waited c
     → Drives o c (status_frame ∷ []) p d (polled ∷ [])
 drives_poll o p c d s t b e =
     let P : Chip → Type 0 = λ x. Carries c (status_frame ∷ []) x (carried_out c (hears c status_frame) ++ []) in
     let Q : List Cycle → Type 0 = λ x. Carries c (status_frame ∷ []) d (x ++ []) in
-    let I : Chip → Type 0 = λ x. Intact p x in
     record {
       polls = let n = one-status in omega arith;
       shape = s;
       status = t;
-      carries = λ _. subst Q (ap (carried_out c) (status-heard c)) (subst P (after-status 0 c ∙ sym e) (step 0 none));
-      intact = λ i. subst I (sym e) (record { shape = i.shape ∙ sym s; status = i.status ∙ sym t; idle = λ f. still o.busy c.busy i.idle (sym b ∙ f) });
+      carries = subst Q (ap (carried_out c) (status-heard c)) (subst P (after-status 0 c ∙ sym e) (step 0 none));
       harmless = λ q. absurd q;
     }
+
+pub poll-intact : (o p : Outline) (c d : Chip) → outlined p ≡ outlined o → p.status.bits ≡ o.status.bits → p.busy ≡ (o.busy && not (c.busy == 0)) → d ≡ waited c
+    → Intact o c → Intact p d
+poll-intact o p c d s t b e i =
+    same-intact p (waited c) d e (record { shape = i.shape ∙ sym s; status = i.status ∙ sym t; idle = λ f. still o.busy c.busy i.idle (sym b ∙ f) })
 
 due-poll : (b : Bool) (n : ℕ) → cond (b && not (n == 0)) (n - 1 + 1) 0 ≡ cond b (n + 1) 0 - 1
 due-poll true n = grind (arith, nat_tests)
@@ -145,11 +137,11 @@ same_meaning : (s t : Shape) (i j : List ℕ) (g h : List Bool) (m n : ℕ) → 
     → ◌≡◌ {A = Meaning} (record { shape = s; image = i; guarded = g; due = m }) (record { shape = t; image = j; guarded = h; due = n })
 same_meaning s t i j g h m n a b c d = cc
 
-pub seen-waited : (o p : Outline) (c d : Chip) → outlined p ≡ outlined o → p.status ≡ o.status → p.busy ≡ (o.busy && not (c.busy == 0)) → d ≡ waited c
+pub seen-waited : (o p : Outline) (c d : Chip) → outlined p ≡ outlined o → p.status.bits ≡ o.status.bits → p.busy ≡ (o.busy && not (c.busy == 0)) → d ≡ waited c
     → seen p d ≡ of_part.waited (seen o c)
 seen-waited o p c d s t b e =
     same_meaning _ _ _ _ _ _ _ _ s
-    (ap₂ (λ (x : Shape) (y : Chip). fitted (size x) y.image) s e)
+    (ap (λ (y : Chip). y.image) e)
     (ap₂ (λ x (y : Shape). guards x y.sectors) t s)
     (ap₂ (λ x (y : Chip). cond x (y.busy + 1) 0) b e ∙ due-poll o.busy c.busy)
 
@@ -161,33 +153,33 @@ pub looked : (o : Outline) (kind : Kind) (a n : ℕ) (r x : Bool) → n ≡ size
     → (a / 64 * 64 + 64 ≤ n → r ≡ presets kind x) → r ≡ presets kind x
 looked o of_kind.Program a n r x e i s f = s
 looked o of_kind.Alter a n r x e i s f = s
-looked o of_kind.Preset a n r x e i s f = f (page-fits (o.sectors * o.pages) a n e (let l = ltb-true _ _ i in omega arith))
+looked o of_kind.Preset a n r x e i s f = f (page-fits (o.geometry.sectors * o.geometry.pages) a n e (let l = ltb-true _ _ i in omega arith))
 looked o of_kind.SectorErase a n r x e i s f = s
 looked o of_kind.BulkErase a n r x e i s f = s
 
 -- a cycle
-module _ (o p : Outline) (c d : Chip) (room : ℕ) (kind : Kind) (a : ℕ) (sent : List ℕ) (sound : of_chip.Sound c)
-    (same_shape : outlined p ≡ outlined o) (same-status : p.status ≡ o.status) (busy : p.busy ≡ true) (was-idle : o.busy ≡ false)
+module _ (o p : Outline) (c d : Chip) (room : ℕ) (kind : Kind) (a : ℕ) (sent : List ℕ) (sound : of_chip.Sound c) (i : Intact o c)
+    (same_shape : outlined p ≡ outlined o) (same-status : p.status.bits ≡ o.status.bits) (busy : p.busy ≡ true) (was-idle : o.busy ≡ false)
     (is-inside : inside (outlined o) kind a ≡ true) (is_filled : fills (outlined o) kind (length sent) ≡ true)
     (is_open : permits (outlined o) (guarding o) kind a ≡ true)
-    (clean : Intact o c → presets kind (blank (page 64 (a / 64) c.image)) ≡ true)
+    (clean : presets kind (blank (page 64 (a / 64) c.image)) ≡ true)
     (e : d ≡ after d.busy (after 0 c enable_frame) (cycle_frame kind a sent)) where
   s : Sendable kind a (length sent)
   s = sendable o kind a (length sent) is-inside is_filled
 
-  arrives : Intact o c → reaches (length c.image) (cycle_of kind a sent) ≡ true
-  arrives i = reaches_in (outlined o) (length c.image) kind a sent (chip_long o c sound i) is-inside
+  arrives : reaches (length c.image) (cycle_of kind a sent) ≡ true
+  arrives = reaches_in (outlined o) (length c.image) kind a sent (chip_long o c sound i) is-inside
 
-  taken : Intact o c → takes (latched true c) (cycle_of kind a sent) ≡ true
-  taken i = takes_in o c kind a sent i is_open (clean i)
+  taken : takes (latched true c) (cycle_of kind a sent) ≡ true
+  taken = takes_in o c kind a sent i is_open clean
 
-  pub cycle-done : Intact o c → d ≡ done d.busy (latched true c) (effect (shape c) (cycle_of kind a sent) c.image)
-  cycle-done i = sent-done c d kind a sent s (i.idle was-idle) (arrives i) (taken i) e
+  pub cycle-done : d ≡ done d.busy (latched true c) (effect (shape c) (cycle_of kind a sent) c.image)
+  cycle-done = sent-done c d kind a sent s (i.idle was-idle) arrives taken e
 
-  pub cycle-intact : Intact o c → Intact p d
-  cycle-intact i =
-      let I : Chip → Type 0 = λ x. Intact p x in
-      subst I (sym (cycle-done i)) (record { shape = i.shape ∙ sym same_shape; status = i.status ∙ sym same-status; idle = λ f. absurd (true≢false (sym busy ∙ f)) })
+  pub cycle-intact : Intact p d
+  cycle-intact =
+      same-intact p (done d.busy (latched true c) (effect (shape c) (cycle_of kind a sent) c.image)) d cycle-done
+      (record { shape = i.shape ∙ sym same_shape; status = i.status ∙ sym same-status; idle = λ f. absurd (true≢false (sym busy ∙ f)) })
 
   pub drives_cycle : Drives o c (looks room kind a ++ (enable_frame ∷ cycle_frame kind a sent ∷ [])) p d (carried (cycle_of kind a sent) ∷ [])
   drives_cycle =
@@ -198,12 +190,9 @@ module _ (o p : Outline) (c d : Chip) (room : ℕ) (kind : Kind) (a : ℕ) (sent
         polls = omega arith;
         shape = same_shape;
         status = same-status;
-        carries = λ i. carries-++ (looks_carry room kind a c s.0) (sent-carries c d kind a sent s (i.idle was-idle) (arrives i) (taken i) e);
-        intact = cycle-intact;
+        carries = carries-++ (looks_carry room kind a c s.0) (sent-carries c d kind a sent s (i.idle was-idle) arrives taken e);
         harmless = λ q. absurd q;
       }
 
-  pub cycle-image : of_chip.Sound d → Intact o c → (seen p d).image ≡ effect (outlined o) (cycle_of kind a sent) (seen o c).image
-  cycle-image after-sound i =
-      seen-image p d after-sound (cycle-intact i) ∙ ap (λ (x : Chip). x.image) (cycle-done i)
-      ∙ ap₂ (λ (x : Shape) z. effect x (cycle_of kind a sent) z) i.shape (sym (seen-image o c sound i))
+  pub cycle-image : (seen p d).image ≡ effect (outlined o) (cycle_of kind a sent) (seen o c).image
+  cycle-image = ap (λ (x : Chip). x.image) cycle-done ∙ ap (λ (x : Shape). effect x (cycle_of kind a sent) c.image) i.shape

@@ -4,9 +4,9 @@ use Rattle.memory.specs.declared.kind.Kind.{Kind}
 use Rattle.memory.specs.declared.kind.Kind.TheVariants as of_kind
 use Rattle.memory.specs.Shape.{Shape, shaped}
 use Rattle.part.specs.Verdict.{inside, fills}
-use Rattle.port.specs.declared.instruction.Operation.{Operation}
-use Rattle.port.specs.declared.instruction.Operation.TheVariants.{WriteEnable, ReadStatus, Identify, Read, Program, Alter, Preset, SectorErase, BulkErase}
+use Rattle.port.specs.declared.instruction.Operation.TheVariants.{WriteEnable, ReadStatus, Identify, Read}
 use Rattle.port.specs.Build.{built}
+use Rattle.port.specs.Operations.{operation_of}
 use Rattle.port.specs.Machine.{Frame, frame}
 
 -- a status read for one byte, which is a poll
@@ -18,13 +18,6 @@ identify_frame = frame (built Identify 0 []) 3
 
 abbrev pub enable_frame : Frame
 enable_frame = frame (built WriteEnable 0 []) 0
-
-abbrev pub operation_of : Kind → Operation
-operation_of of_kind.Program = Program
-operation_of of_kind.Alter = Alter
-operation_of of_kind.Preset = Preset
-operation_of of_kind.SectorErase = SectorErase
-operation_of of_kind.BulkErase = BulkErase
 
 abbrev pub cycle_frame : Kind → ℕ → List ℕ → Frame
 cycle_frame kind address sent = frame (built (operation_of kind) address sent) 0

@@ -19,14 +19,15 @@ use Rattle.part.specs.declared.outline.Outline.{Outline}
 use Rattle.part.specs.Outline.{outlined, guarding}
 use Rattle.part.specs.Verdict.{inside, fills, permits, presets}
 use Rattle.part.specs.Guards.{guard_at, free-guards}
-use Rattle.driver.specs.Frames.{Sendable, largest, operation_of, enable_frame, cycle_frame, looks}
+use Rattle.driver.specs.Frames.{Sendable, largest, enable_frame, cycle_frame, looks}
+use Rattle.port.specs.Operations.{operation_of}
 use Rattle.driver.specs.Carries.{Carries, Harmless, none, step, status_reads, asks_status, carried_out}
 use Rattle.driver.specs.Driving.{Intact}
 use Rattle.driver.specs.Reading.{reads_carry, reads-harmless, reads_no_status}
 
 -- what an outline lets pass has an address of three bytes and a page at most
 inside_most : (o : Outline) (a : ℕ) → nat_lt a (size (outlined o)) ≡ true → nat_lt a 16777216 ≡ true
-inside_most o a e = lt-ltb _ _ (omega (arith, ltb-true _ _ e, o.small))
+inside_most o a e = lt-ltb _ _ (omega (arith, ltb-true _ _ e, o.geometry.small))
 
 pub sendable : (o : Outline) (kind : Kind) (a n : ℕ) → inside (outlined o) kind a ≡ true → fills (outlined o) kind n ≡ true → Sendable kind a n
 sendable o of_kind.Program a n i f = (inside_most o a i, f)
@@ -118,7 +119,7 @@ opened : (o : Outline) (c : Chip) (a : ℕ) → Intact o c → not (guarding o (
     → not (protects c.status (shape c).sectors (sector_at (shape c) a)) ≡ true
 opened o c a i p =
     ap₂ (λ st (m : Shape). not (protects st m.sectors (sector_at m a))) i.status i.shape
-    ∙ ap not (sym (guard_at o.status o.sectors (sector_at (outlined o) a))) ∙ p
+    ∙ ap not (sym (guard_at o.status.bits o.geometry.sectors (sector_at (outlined o) a))) ∙ p
 
 pub takes_in : (o : Outline) (c : Chip) (kind : Kind) (a : ℕ) (sent : List ℕ) → Intact o c → permits (outlined o) (guarding o) kind a ≡ true
     → presets kind (blank (page 64 (a / 64) c.image)) ≡ true → takes (latched true c) (cycle_of kind a sent) ≡ true
@@ -127,7 +128,7 @@ takes_in o c of_kind.Alter a sent i p t = opened o c a i p
 takes_in o c of_kind.Preset a sent i p t = and_from _ _ (opened o c a i p) (ap (λ (m : Shape). blank (page m.bytes (a / m.bytes) c.image)) i.shape ∙ t)
 takes_in o c of_kind.SectorErase a sent i p t = opened o c a i p
 takes_in o c of_kind.BulkErase a sent i p t =
-    ap (λ st. nat_eq (bit_and st 0x5C) 0) i.status ∙ sym (free-guards o.status o.sectors o.byte o.some) ∙ p
+    ap (λ st. nat_eq (bit_and st 0x5C) 0) i.status ∙ sym (free-guards o.status.bits o.geometry.sectors o.status.byte o.geometry.some) ∙ p
 
 -- looking at the page alters nothing
 pub looks_carry : (room : ℕ) (kind : Kind) (a : ℕ) (c : Chip) → inside largest kind a ≡ true → Carries c (looks room kind a) c []

@@ -10,7 +10,7 @@ use port::port::Port;
 // A page cycle: a code, three bytes of address and a page of data. Every port carries it.
 const MOST_SENT: usize = 68;
 
-// Sends a frame that the port can carry.
+// Sends a frame that the port can carry. There is no heap: the frame takes up a part of a buffer.
 pub(crate) fn ask<P: Port>(
     port: &mut P,
     operation: Operation,
@@ -25,8 +25,6 @@ pub(crate) fn ask<P: Port>(
     ensures trace { P.Port.trace port.old port.new (frame (built operation address «data».now) (length back.old) ∷ []) }
 {
     let mut frame = [0; MOST_SENT];
-    let Ok(n) = build(operation, address, data, &mut frame) else {
-        unreachable()
-    };
-    let _ = port.exchange(&frame[0..n], back);
+    let n = build(operation, address, data, &mut frame).unwrap();
+    port.exchange(&frame[..n], back).unwrap();
 }

@@ -9,10 +9,10 @@ use crate::driver::Driver;
 use crate::fault::AttachFault;
 use crate::poll::{capacity, status, wait};
 use memory::model::Model;
+use memory::protection::Status;
+use part::limit::is_limit;
 use part::outline::Outline;
 use port::port::Port;
-
-const MOST_POLLS: usize = 4096;
 
 // What an idle chip says of itself. A port's chip is always one that is known.
 fn learn<P: Port>(port: &mut P) -> Outline
@@ -22,38 +22,46 @@ fn learn<P: Port>(port: &mut P) -> Outline
     ensures chip { P.Port.chip port.new ≡ P.Port.chip port.old }
     ensures trace { P.Port.trace port.old port.new (identify_frame ∷ status_frame ∷ []) }
 {
-    let Some(model) = Model::find(capacity(port)) else {
-        unreachable()
-    };
-    let byte = status(port);
+    let model = Model::find(capacity(port)).unwrap();
     Outline {
-        sectors: model.sectors,
-        pages: model.pages,
-        status: byte - byte % 4,
+        geometry: model.geometry,
+        status: Status::masked(status(port)),
         busy: false,
     }
 }
 
+// Why there is no driver, and the port handed back.
+#[derive(Drop)]
+pub struct Unattached<P> {
+    pub fault: AttachFault,
+    pub port: P,
+}
+
 // A driver of the chip behind the port, once the chip is idle. The port is handed back where the limit of polls is
 // not 1 to 4,096, and where the chip is still busy after that many.
-pub fn attach<P: Port>(mut port: P, limit: usize) -> Result<Driver<P>, (AttachFault, P)>
+pub fn attach<P: Port>(mut port: P, limit: usize) -> Result<Driver<P>, Unattached<P>>
     ensures { MatchResult result
         (λ d. (unattached limit (P.Port.chip port).busy ≡ None)
-        × Intact d.outline (P.Port.chip d.port)
         × (d.outline.busy ≡ false)
         × (P.Port.chip d.port ≡ rested (P.Port.chip port))
         × P.Port.trace port d.port (attach_frames (P.Port.chip port).busy))
-        (λ e. (unattached limit (P.Port.chip port).busy ≡ Some e.0)
-        × elim e.0 [
-          | Limit n ↦ e.1 ≡ port
-          | Busy n ↦ (P.Port.chip e.1 ≡ lowered limit (P.Port.chip port)) × P.Port.trace port e.1 (replicate limit status_frame)
+        (λ u. (unattached limit (P.Port.chip port).busy ≡ Some u.fault)
+        × elim u.fault [
+          | Limit n ↦ u.port ≡ port
+          | Busy n ↦ (P.Port.chip u.port ≡ lowered limit (P.Port.chip port)) × P.Port.trace port u.port (replicate limit status_frame)
         ]) }
 {
-    if limit == 0 || limit > MOST_POLLS {
-        return Err((AttachFault::Limit(limit), port));
+    if !is_limit(limit) {
+        return Err(Unattached {
+            fault: AttachFault::Limit(limit),
+            port,
+        });
     }
     if !wait(&mut port, limit) {
-        return Err((AttachFault::Busy(limit), port));
+        return Err(Unattached {
+            fault: AttachFault::Busy(limit),
+            port,
+        });
     }
     let outline = learn(&mut port);
     Ok(Driver { port, outline })

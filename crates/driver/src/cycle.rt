@@ -3,7 +3,7 @@ ghost use Rattle.std.specs.Prelude.{◌≡◌, ◌+◌, ◌-◌, ◌*◌, ◌/�
 ghost use Rattle.memory.specs.Page.{blank, page};
 ghost use Rattle.port.specs.Machine.{after};
 ghost use Rattle.part.specs.Verdict.{inside, presets};
-ghost use Rattle.driver.specs.Frames.{Sendable, cycle_frame, enable_frame, largest, looks, operation_of};
+ghost use Rattle.driver.specs.Frames.{Sendable, cycle_frame, enable_frame, largest, looks};
 
 use crate::ask::ask;
 use crate::read::read;
@@ -12,18 +12,6 @@ use memory::kind::Kind;
 use memory::model::PAGE_BYTES;
 use port::instruction::Operation;
 use port::port::Port;
-
-fn operation_of(kind: Kind) -> Operation
-    ensures { result ≡ operation_of kind }
-{
-    match kind {
-        Kind::Program => Operation::Program,
-        Kind::Alter => Operation::Alter,
-        Kind::Preset => Operation::Preset,
-        Kind::SectorErase => Operation::SectorErase,
-        Kind::BulkErase => Operation::BulkErase,
-    }
-}
 
 // If the page is as a cycle of this kind needs it: a preset looks at its page.
 pub(crate) fn is_clean_for<P: Port>(port: &mut P, kind: Kind, address: usize) -> bool
@@ -50,5 +38,5 @@ pub(crate) fn send<P: Port>(port: &mut P, kind: Kind, address: usize, data: &[u8
     ensures trace { P.Port.trace port.old port.new (enable_frame ∷ cycle_frame kind address «data».now ∷ []) }
 {
     ask(port, Operation::WriteEnable, 0, &[], &mut []);
-    ask(port, operation_of(kind), address, data, &mut []);
+    ask(port, Operation::from(kind), address, data, &mut []);
 }

@@ -1,6 +1,6 @@
 // The driver is a part.
 ghost use Rattle.std.specs.Prelude.{◌≡◌, [], ◌++◌};
-ghost use Rattle.driver.specs.Means.{DriverIntact, driver_meaning, DriverTrace};
+ghost use Rattle.driver.specs.Means.{driver_meaning, DriverTrace};
 ghost use Rattle.driver.specs.Seeing.{seen-sound};
 ghost use Rattle.driver.specs.Driven.{drives_none, drives-++};
 
@@ -14,13 +14,14 @@ use part::part::Part;
 use port::port::Port;
 
 impl<P: Port> Part for Driver<P> {
-    ghost meaning = { driver_meaning P.Port.chip };
+    ghost meaning = { driver_meaning P.Port };
 
-    ghost trace = { DriverTrace P.Port.chip P.Port.trace };
+    ghost trace = { DriverTrace P.Port };
 
-    ghost intact = { DriverIntact P.Port.chip };
+    // What it remembers is true of the chip, by its type.
+    ghost intact = { λ _. Unit {0} };
 
-    ghost sound = { λ s. seen-sound s.outline (P.Port.chip s.port) (P.Port.sound s.port).0 };
+    ghost sound = { λ s. seen-sound s.outline (P.Port.chip s.port) (P.Port.sound s.port).0 s.intact };
 
     ghost stays = { λ s. ([], P.Port.stays s.port, drives_none s.outline (P.Port.chip s.port)) };
 
@@ -31,11 +32,11 @@ impl<P: Port> Part for Driver<P> {
     ) };
 
     fn sectors(&self) -> usize {
-        self.outline.sectors
+        self.outline.geometry.sectors
     }
 
     fn pages(&self) -> usize {
-        self.outline.pages
+        self.outline.geometry.pages
     }
 
     fn is_busy(&self) -> bool {
@@ -47,17 +48,13 @@ impl<P: Port> Part for Driver<P> {
     }
 
     fn read(&mut self, address: usize, into: &mut [u8]) -> Result<(), PartFault> {
-        if let Some(fault) = self.outline.refuses_read(address, into.len()) {
-            return Err(fault);
-        }
+        self.outline.check_read(address, into.len())?;
         read(&mut self.port, address, into);
         Ok(())
     }
 
     fn cycle(&mut self, kind: Kind, address: usize, data: &[u8]) -> Result<(), PartFault> {
-        if let Some(fault) = self.outline.refuses_cycle(kind, address, data.len()) {
-            return Err(fault);
-        }
+        self.outline.check_cycle(kind, address, data.len())?;
         if !is_clean_for(&mut self.port, kind, address) {
             return Err(PartFault::NotBlank(address));
         }

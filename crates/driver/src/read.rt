@@ -10,7 +10,8 @@ use port::port::Port;
 // What a read frame sends: a code and three bytes of address.
 const READ_HEAD: usize = 4;
 
-// Fills the buffer from an address on, by frames as long as the port carries.
+// Fills the buffer from an address on, by frames as long as the port carries. With `chunks_mut` in place of the ranges
+// nothing is known of the bytes once the chunks are given back, so the proof does not close.
 pub(crate) fn read<P: Port>(port: &mut P, address: usize, into: &mut [u8])
     requires { address + length into.old ≤ 16777216 }
     ensures bytes { (P.Port.chip port.old).busy ≡ 0 → address + length into.old ≤ length (P.Port.chip port.old).image → into.new ≡ block address (length into.old) (P.Port.chip port.old).image }
@@ -18,8 +19,7 @@ pub(crate) fn read<P: Port>(port: &mut P, address: usize, into: &mut [u8])
     ensures trace { P.Port.trace port.old port.new (reads (P.Port.longest port.old - 4) address (length into.old)) }
 {
     let room = port.longest_frame() - READ_HEAD;
-    let mut done = 0;
-    while done < into.len() {
+    for done in (0..into.len()).step_by(room) {
         let n = room.min(into.len() - done);
         ask(
             port,
@@ -28,6 +28,5 @@ pub(crate) fn read<P: Port>(port: &mut P, address: usize, into: &mut [u8])
             &[],
             &mut into[done..done + n],
         );
-        done += n;
     }
 }

@@ -7,13 +7,6 @@ use crate::fence::{Fence, MOST_SECTORS};
 use part::fault::PartFault;
 use part::part::Part;
 
-// The mark at a place, none past the last.
-fn mark_at(marks: &[bool], place: usize) -> bool
-    ensures { result ≡ is_closed marks.now place }
-{
-    place < marks.len() && marks[place]
-}
-
 impl<P> Fence<P> {
     // A fence over the part, with no sector closed.
     pub fn new(part: P) -> Fence<P>
@@ -36,7 +29,7 @@ impl<P> Fence<P> {
     pub(crate) fn is_closed(&self, sector: usize) -> bool
         ensures { result ≡ is_closed self.now.closed sector }
     {
-        mark_at(&self.closed, sector)
+        self.closed.get(sector).is_some_and(|closed| *closed)
     }
 }
 

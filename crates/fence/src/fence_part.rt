@@ -2,50 +2,35 @@
 ghost use Rattle.std.specs.Prelude.{◌≡◌, not};
 ghost use Rattle.std.proofs.Common.{◌∙◌, rules};
 ghost use Rattle.memory.specs.Protection.{free};
-ghost use Rattle.part.specs.Verdict.{idle, inside};
+ghost use Rattle.part.specs.Verdict.{idle};
 ghost use Rattle.fence.specs.Closed.{barred_by, bars, fenced, is_closed};
 ghost use Rattle.fence.specs.Barring.{fenced-sound};
 
 use crate::fence::Fence;
 use memory::kind::Kind;
-use memory::model::PAGE_BYTES;
 use part::fault::PartFault;
 use part::part::Part;
 use part::refusal::{barred, fills_page};
-use part::size::size_of;
+use part::size::{geometry_of, is_within, size_of};
 
 impl<P: Part> Fence<P> {
     // If no sector is closed.
     fn is_open(&self) -> bool
         ensures { result ≡ free (is_closed self.now.closed) (P.Part.meaning self.now.part).shape.sectors }
     {
-        for sector in 0..self.part.sectors() {
-            if self.is_closed(sector) {
-                return false;
-            }
-        }
-        true
+        !(0..self.part.sectors()).any(|sector| self.is_closed(sector))
     }
 
-    // If a closed sector stands in the way of the cycle.
+    // If a closed sector stands in the way of the cycle. An outline's `is_open` asks two other questions of the same two
+    // cases, and a function of both questions would be longer than either.
     fn bars(&self, kind: Kind, address: usize) -> bool
         ensures { result ≡ bars (P.Part.meaning self.now.part).shape self.now.closed kind address }
     {
         match kind {
             Kind::BulkErase => !self.is_open(),
             Kind::Program | Kind::Alter | Kind::Preset | Kind::SectorErase => self.is_closed(
-                address / PAGE_BYTES / self.part.pages(),
+                geometry_of(&self.part).sector_of(address),
             ),
-        }
-    }
-
-    fn is_inside(&self, kind: Kind, address: usize) -> bool
-        ensures { result ≡ inside (P.Part.meaning self.now.part).shape kind address }
-    {
-        match kind {
-            Kind::BulkErase => true,
-            Kind::Program | Kind::Alter | Kind::Preset | Kind::SectorErase => address
-                < size_of(&self.part),
         }
     }
 
@@ -53,7 +38,7 @@ impl<P: Part> Fence<P> {
     fn refusal(&self, kind: Kind, address: usize, n: usize) -> PartFault
         ensures { result ≡ barred_by (P.Part.meaning self.now.part).shape (idle (P.Part.meaning self.now.part)) kind address n }
     {
-        if !self.is_inside(kind, address) {
+        if !is_within(size_of(&self.part), kind, address) {
             return PartFault::Outside(address);
         }
         if !fills_page(kind, n) {
@@ -93,10 +78,8 @@ impl<P: Part> Part for Fence<P> {
     }
 
     fn is_protected(&self, sector: usize) -> Result<bool, PartFault> {
-        match self.part.is_protected(sector) {
-            Ok(protected) => Ok(protected || self.is_closed(sector)),
-            Err(fault) => Err(fault),
-        }
+        let protected = self.part.is_protected(sector)?;
+        Ok(protected || self.is_closed(sector))
     }
 
     fn read(&mut self, address: usize, into: &mut [u8]) -> Result<(), PartFault> {

@@ -1,5 +1,5 @@
 -- Refusals by an outline and by the meaning that it outlines, and what a cycle that is not refused has passed.
-use Rattle.std.proofs.Common.{◌≡◌, ℕ, ◌+◌, ◌≤◌, Bool, true, false, not, leb, List, length, get_or, is_some, Some, None, Option, sym, refl, ap, ◌∙◌, ap₂, arith}
+use Rattle.std.proofs.Common.{◌≡◌, ℕ, ◌+◌, ◌≤◌, Bool, true, false, not, leb, List, length, get_or, is_some, Some, None, Ok, Err, Option, sym, refl, ap, ◌∙◌, ap₂, arith}
 use Rattle.std.proofs.lemmas.Bool.{eqb-true, leb-true, cond-true, cond-false}
 use Rattle.memory.specs.declared.kind.Kind.{Kind}
 use Rattle.memory.specs.declared.kind.Kind.TheVariants.{Program, Alter, Preset, SectorErase, BulkErase}
@@ -11,8 +11,17 @@ use Rattle.part.specs.declared.fault.PartFault.TheVariants.{Outside, PageData, B
 use Rattle.part.specs.declared.outline.Outline.{Outline}
 use Rattle.part.specs.Meaning.{Meaning, protected_at}
 use Rattle.part.specs.Outline.{Outlines, outlined, guarding}
-use Rattle.part.specs.Verdict.{check, refusal, read_refusal, inside, fills, permits, barred, presets, idle, clean_at, verdict, read_verdict}
+use Rattle.part.specs.Verdict.{check, refusal, read_refusal, inside, fills, permits, barred, presets, idle, clean_at, verdict, read_verdict, told}
 use Rattle.part.proofs.Accepting.{accepting, presets_clean}
+
+-- what is told, and why
+pub unrefused : (o : Option PartFault) → Ok tt ≡ told o → None ≡ o
+unrefused None e = refl
+unrefused (Some f) e = cc
+
+pub refused : (o : Option PartFault) (f : PartFault) → Err f ≡ told o → o ≡ Some f
+refused None f e = cc
+refused (Some g) f e = cc
 
 -- four checks and a last one
 abbrev five : (i f d p b : Bool) (x y z v w : PartFault) → Option PartFault

@@ -1,9 +1,10 @@
 -- The plain image as a part, and its making.
-use Rattle.std.specs.Prelude.{◌≡◌, ℕ, ◌%◌, true, cond, List, [], ◌∷◌, Some, None, Option, ◌==◌, nat_le}
+use Rattle.std.specs.Prelude.{◌≡◌, ℕ, true, cond, List, [], ◌∷◌, Some, None, Option}
 use Rattle.memory.specs.declared.image.ImageFault.{ImageFault}
 use Rattle.memory.specs.declared.image.ImageFault.TheVariants as of_image
 use Rattle.memory.specs.Shape.{shaped}
 use Rattle.memory.specs.Cycle.{Cycle, accepts, effect}
+use Rattle.memory.specs.Protection.{at_rest}
 use Rattle.memory.specs.Image as of_image_specs
 use Rattle.memory.specs.Image.{bytes_of, shape_of}
 use Rattle.part.specs.declared.fault.Making.{Making}
@@ -16,7 +17,7 @@ abbrev pub plainly : PlainImage → Meaning
 plainly p = record {
   shape = shape_of p.image;
   image = bytes_of p.image;
-  guarded = guards p.status p.image.sectors;
+  guarded = guards p.status.bits p.image.geometry.sectors;
   due = cond p.busy 1 0;
 }
 
@@ -30,7 +31,7 @@ imaging of_image.Geometry = Geometry
 imaging of_image.Length = Length
 
 abbrev pub status_fault : ℕ → Option Making
-status_fault status = cond (nat_le 128 status) (cond (status % 4 == 0) None (Some Status)) (Some Status)
+status_fault status = cond (at_rest status) None (Some Status)
 
 abbrev pub fault_of : Option ImageFault → ℕ → Option Making
 fault_of (Some fault) status = Some (imaging fault)

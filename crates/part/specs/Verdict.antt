@@ -14,13 +14,17 @@ use Rattle.part.specs.Meaning.{Meaning, protected_at}
 abbrev pub check : Bool → PartFault → Option PartFault → Option PartFault
 check ok fault later = cond ok later (Some fault)
 
--- 1: the address is inside; a bulk erase has none
+-- the address is among so many; a bulk erase has none
+abbrev pub within : ℕ → Kind → ℕ → Bool
+within size Program address = nat_lt address size
+within size Alter address = nat_lt address size
+within size Preset address = nat_lt address size
+within size SectorErase address = nat_lt address size
+within size BulkErase address = true
+
+-- 1: the address is inside
 abbrev pub inside : Shape → Kind → ℕ → Bool
-inside m Program address = nat_lt address (size m)
-inside m Alter address = nat_lt address (size m)
-inside m Preset address = nat_lt address (size m)
-inside m SectorErase address = nat_lt address (size m)
-inside m BulkErase address = true
+inside m kind address = within (size m) kind address
 
 -- 2: one byte at least, one page at most; an erase has no data
 abbrev pub fills : Shape → Kind → ℕ → Bool

@@ -3,6 +3,7 @@
 #![tactic(auto)]
 
 pub mod fault;
+pub mod limit;
 mod making;
 pub mod outline;
 pub mod part;

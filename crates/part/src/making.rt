@@ -7,39 +7,41 @@ ghost use Rattle.part.specs.Plain.{fresh, imaging, plainly, unmade};
 use crate::fault::Making;
 use crate::outline::Outline;
 use crate::plain::PlainImage;
-use memory::image::{Image, ImageFault};
+use memory::image::{Image, ImageFault, Unmade};
 use memory::kind::Kind;
+use memory::protection::Status;
 
-const SRWD: u8 = 0x80;
+impl From<ImageFault> for Making {
+    ghost from_gives = { λ fault making. making ≡ imaging fault };
 
-fn making(fault: ImageFault) -> Making
-    ensures { result ≡ imaging fault }
-{
-    match fault {
-        ImageFault::Geometry => Making::Geometry,
-        ImageFault::Length => Making::Length,
+    fn from(fault: ImageFault) -> Making {
+        match fault {
+            ImageFault::Geometry => Making::Geometry,
+            ImageFault::Length => Making::Length,
+        }
     }
 }
 
 impl PlainImage {
-    // The caller's bytes as a part, which are handed back where they cannot be one.
+    // The caller's bytes as a part, which are handed back where they cannot be one. The counts come as two numbers, since
+    // the refusal tells which of all that was passed is at fault.
     pub fn new(
         sectors: usize,
         pages: usize,
         status: u8,
         bytes: Vec<u8>,
-    ) -> Result<PlainImage, (Making, Vec<u8>)>
+    ) -> Result<PlainImage, Unmade<Making>>
         ensures { MatchResult result
             (λ p. (unmade sectors pages status (vec_len bytes) ≡ None) × (plainly p ≡ fresh sectors pages status bytes.items) × (p.image.bytes ≡ bytes))
-            (λ e. (unmade sectors pages status (vec_len bytes) ≡ Some e.0) × (e.1 ≡ bytes)) }
+            (λ u. (unmade sectors pages status (vec_len bytes) ≡ Some u.fault) × (u.bytes ≡ bytes)) }
     {
-        let image = match Image::new(sectors, pages, bytes) {
-            Ok(image) => image,
-            Err((fault, bytes)) => return Err((making(fault), bytes)),
+        let image = Image::new(sectors, pages, bytes).map_err(|unmade| unmade.convert())?;
+        let Some(status) = Status::new(status) else {
+            return Err(Unmade {
+                fault: Making::Status,
+                bytes: image.into_bytes(),
+            });
         };
-        if status < SRWD || status % 4 != 0 {
-            return Err((Making::Status, image.into_bytes()));
-        }
         Ok(PlainImage {
             image,
             status,
@@ -63,8 +65,7 @@ impl PlainImage {
         ensures { Outlines result (plainly self.now) }
     {
         Outline {
-            sectors: self.image.sectors,
-            pages: self.image.pages,
+            geometry: self.image.geometry,
             status: self.status,
             busy: self.busy,
         }

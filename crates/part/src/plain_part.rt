@@ -25,12 +25,12 @@ impl Part for PlainImage {
         let i = s.image in
         let w : length i.bytes.items ≡ size (shape_of i) = sym i.bytes.ok.0 ∙ i.sized in
         record {
-          some = i.some;
-          few = i.few;
-          paged = i.paged;
-          low = i.low;
+          some = i.geometry.some;
+          few = i.geometry.few;
+          paged = i.geometry.paged;
+          low = i.geometry.low;
           page = mathlib.Core.Path.refl;
-          each = length-guards s.status i.sectors;
+          each = length-guards s.status.bits i.geometry.sectors;
           imaged = record { whole = w; bytes = i.byte };
         } };
 
@@ -39,11 +39,11 @@ impl Part for PlainImage {
     ghost joins = { λ a b c l m p q. played-++ p q };
 
     fn sectors(&self) -> usize {
-        self.image.sectors
+        self.image.geometry.sectors
     }
 
     fn pages(&self) -> usize {
-        self.image.pages
+        self.image.geometry.pages
     }
 
     fn is_busy(&self) -> bool {
@@ -55,17 +55,13 @@ impl Part for PlainImage {
     }
 
     fn read(&mut self, address: usize, into: &mut [u8]) -> Result<(), PartFault> {
-        if let Some(fault) = self.outline().refuses_read(address, into.len()) {
-            return Err(fault);
-        }
+        self.outline().check_read(address, into.len())?;
         self.image.read(address, into);
         Ok(())
     }
 
     fn cycle(&mut self, kind: Kind, address: usize, data: &[u8]) -> Result<(), PartFault> {
-        if let Some(fault) = self.outline().refuses_cycle(kind, address, data.len()) {
-            return Err(fault);
-        }
+        self.outline().check_cycle(kind, address, data.len())?;
         if !self.is_clean_for(kind, address) {
             return Err(PartFault::NotBlank(address));
         }

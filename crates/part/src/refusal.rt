@@ -1,102 +1,76 @@
 // What an outline refuses.
-ghost use Rattle.std.specs.Prelude.{◌≡◌, ◌*◌, true, not, if◌then◌else◌, Ok, Err, nat_lt};
-ghost use Rattle.memory.specs.Shape.{shaped, size};
-ghost use Rattle.memory.specs.Protection.{free};
+ghost use Rattle.std.specs.Prelude.{◌≡◌, true, not, if◌then◌else◌, Ok, Err, nat_lt};
+ghost use Rattle.memory.specs.Shape.{shaped};
 ghost use Rattle.part.specs.declared.fault.PartFault.TheVariants.{NoSector};
-ghost use Rattle.part.specs.Verdict.{Accepting, barred, fills, inside, permits, read_refusal, refusal};
+ghost use Rattle.part.specs.Verdict.{Accepting, barred, fills, permits, read_refusal, refusal, told};
 ghost use Rattle.part.specs.Outline.{guarding, outlined};
 
 use crate::fault::PartFault;
 use crate::outline::Outline;
+use crate::size::{is_inside, is_within};
 use memory::kind::Kind;
 use memory::model::PAGE_BYTES;
-use memory::protection::is_protected;
-
-// BP3 and BP2 to BP0
-const BLOCK_PROTECT: u8 = 0x5C;
 
 impl Outline {
-    fn size(&self) -> usize
-        ensures { result ≡ size (outlined self.now) }
-    {
-        self.sectors * self.pages * PAGE_BYTES
-    }
-
     fn protects(&self, sector: usize) -> bool
         ensures { result ≡ guarding self.now sector }
     {
-        is_protected(self.status, self.sectors, sector)
+        self.status.protects(self.geometry.sectors, sector)
     }
 
-    // If no sector is protected.
-    fn is_free(&self) -> bool
-        ensures { result ≡ free (guarding self.now) self.now.sectors }
-    {
-        self.status & BLOCK_PROTECT == 0
-    }
-
-    fn is_inside(&self, kind: Kind, address: usize) -> bool
-        ensures { result ≡ inside (outlined self.now) kind address }
-    {
-        match kind {
-            Kind::BulkErase => true,
-            Kind::Program | Kind::Alter | Kind::Preset | Kind::SectorErase => address < self.size(),
-        }
-    }
-
+    // Whether nothing that the cycle alters is protected.
     fn is_open(&self, kind: Kind, address: usize) -> bool
         ensures { result ≡ permits (outlined self.now) (guarding self.now) kind address }
     {
         match kind {
-            Kind::BulkErase => self.is_free(),
+            Kind::BulkErase => self.status.protects_none(),
             Kind::Program | Kind::Alter | Kind::Preset | Kind::SectorErase => !self.protects(
-                address / PAGE_BYTES / self.pages,
+                self.geometry.sector_of(address),
             ),
         }
     }
 
     // Whether a sector is protected.
     pub fn is_protected(&self, sector: usize) -> Result<bool, PartFault>
-        ensures { result ≡ (if nat_lt sector self.now.sectors then Ok (guarding self.now sector) else Err (NoSector sector)) }
+        ensures { result ≡ (if nat_lt sector self.now.geometry.sectors then Ok (guarding self.now sector) else Err (NoSector sector)) }
     {
-        if sector >= self.sectors {
+        if sector >= self.geometry.sectors {
             return Err(PartFault::NoSector(sector));
         }
         Ok(self.protects(sector))
     }
 
-    // Why a read of n bytes is refused, if it is.
-    pub fn refuses_read(&self, address: usize, n: usize) -> Option<PartFault>
-        ensures { result ≡ read_refusal (outlined self.now) (not self.now.busy) address n }
+    // How a read of n bytes is refused, if it is.
+    pub fn check_read(&self, address: usize, n: usize) -> Result<(), PartFault>
+        ensures { result ≡ told (read_refusal (outlined self.now) (not self.now.busy) address n) }
     {
-        let size = self.size();
-        if n > size || address > size - n {
-            return Some(PartFault::Outside(address));
+        if !is_inside(self.geometry.size(), address, n) {
+            return Err(PartFault::Outside(address));
         }
         if self.busy {
-            return Some(PartFault::Busy);
+            return Err(PartFault::Busy);
         }
-        None
+        Ok(())
     }
 
-    // Why a cycle is refused, if it is, before its page is looked at.
-    pub fn refuses_cycle(&self, kind: Kind, address: usize, n: usize) -> Option<PartFault>
-        ensures value { result ≡ refusal (outlined self.now) (guarding self.now) (not self.now.busy) true kind address n }
+    // How a cycle is refused, if it is, before its page is looked at.
+    pub fn check_cycle(&self, kind: Kind, address: usize, n: usize) -> Result<(), PartFault>
+        ensures value { result ≡ told (refusal (outlined self.now) (guarding self.now) (not self.now.busy) true kind address n) }
         ensures accepting { Accepting }
     {
-        if !self.is_inside(kind, address) {
-            return Some(PartFault::Outside(address));
+        if !is_within(self.geometry.size(), kind, address) {
+            return Err(PartFault::Outside(address));
         }
         if !fills_page(kind, n) {
-            return Some(PartFault::PageData(n));
+            return Err(PartFault::PageData(n));
         }
         if self.busy {
-            return Some(PartFault::Busy);
+            return Err(PartFault::Busy);
         }
         if !self.is_open(kind, address) {
-            return Some(PartFault::Protected(barred(kind, address)));
+            return Err(PartFault::Protected(barred(kind, address)));
         }
-        None
+        Ok(())
     }
 }
 

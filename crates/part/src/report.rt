@@ -1,36 +1,28 @@
 // A part's refusal as it is reported.
-ghost use Rattle.std.specs.Prelude.{◌≡◌, [], ◌∷◌};
-ghost use Rattle.memory.specs.Row.{rowed};
-ghost use Rattle.memory.specs.Reports.{reported};
-ghost use Rattle.part.specs.Rows.{row};
+ghost use Rattle.part.specs.Rows.{making_row, row};
 
-use crate::fault::PartFault;
-use memory::report::{Report, Values};
+use crate::fault::{Making, PartFault};
+use memory::report::{Layer, Report, Reported};
 
-const LAYER: usize = 2;
+impl Reported for PartFault {
+    ghost row = { row };
 
-// A refusal of a part returns one value.
-fn report_of(number: usize, value: usize) -> Report
-    ensures { reported result ≡ rowed 2 number (value ∷ []) }
-{
-    Report {
-        layer: LAYER,
-        number,
-        values: Values::One(value),
+    fn report(self) -> Report {
+        match self {
+            PartFault::Outside(address) => Report::one(Layer::Part, 1, address),
+            PartFault::NoSector(sector) => Report::one(Layer::Part, 1, sector),
+            PartFault::PageData(length) => Report::one(Layer::Part, 2, length),
+            PartFault::Busy => Report::one(Layer::Part, 3, 0),
+            PartFault::Protected(address) => Report::one(Layer::Part, 4, address),
+            PartFault::NotBlank(address) => Report::one(Layer::Part, 5, address),
+        }
     }
 }
 
-impl PartFault {
-    pub fn report(self) -> Report
-        ensures { reported result ≡ row self }
-    {
-        match self {
-            PartFault::Outside(address) => report_of(1, address),
-            PartFault::NoSector(sector) => report_of(1, sector),
-            PartFault::PageData(length) => report_of(2, length),
-            PartFault::Busy => report_of(3, 0),
-            PartFault::Protected(address) => report_of(4, address),
-            PartFault::NotBlank(address) => report_of(5, address),
-        }
+impl Reported for Making {
+    ghost row = { making_row };
+
+    fn report(self) -> Report {
+        Report::one(Layer::Part, 13, self as usize)
     }
 }

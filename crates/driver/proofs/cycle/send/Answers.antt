@@ -2,7 +2,8 @@ use Rattle.std.proofs.Common.{◌≡◌, [], ◌∷◌, length, ap, ◌∙◌, s
 use Rattle.port.specs.declared.instruction.Operation.{Operation}
 use Rattle.port.specs.Build.{built}
 use Rattle.port.specs.Machine.{Frame, frame, after}
-use Rattle.driver.specs.Frames.{cycle_frame, operation_of}
+use Rattle.driver.specs.Frames.{cycle_frame}
+use Rattle.port.specs.Operations.{operation_of}
 use Rattle.driver.specs.Sending.{length-enable, length-cycle, after-enable}
 use Rattle.driver.proofs.cycle.send.Goals as goal
 
@@ -15,8 +16,8 @@ pub ask-requires-2 : goal.ask-requires-2
 ask-requires-2 g c =
     let s = (g.met.P.Port.sound c.args.port.now).1 in
     let e = c.ask.ensures.longest in
-    let o : length (built c.operation_of.result c.args.address c.args.data.now) ≡ length (built (operation_of c.args.kind) c.args.address c.args.data.now) =
-    ap (λ x. length (built x c.args.address c.args.data.now)) c.operation_of.ensures in
+    let o : length (built c.from.result c.args.address c.args.data.now) ≡ length (built (operation_of c.args.kind) c.args.address c.args.data.now) =
+    ap (λ x. length (built x c.args.address c.args.data.now)) c.from.ensures in
     let l = length-cycle c.args.kind c.args.address c.args.data.now c.requires.1 in
     (omega arith, omega arith)
 
@@ -24,7 +25,7 @@ pub returns : goal.returns
 returns g c =
     let chip = g.P.Port.chip c.args.port.now in
     let frame_of : Operation → Frame = λ o. frame (built o c.args.address c.args.data.now) 0 in
-    let o = c.operation_of.ensures in
+    let o = c.from.ensures in
     let T : Operation → Type 0 = λ x. g.P.Port.trace c.ask.new.port c.ask-2.new.port (frame_of x ∷ []) in
     record {
       chip =

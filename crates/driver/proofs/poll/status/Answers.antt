@@ -7,11 +7,9 @@ ask-requires g c =
     let l = length-status in
     let s = (g.met.P.Port.sound c.args.port.now).1 in (omega arith, omega arith)
 
-pub returns : goal.returns
-returns g c =
-    let chip = g.P.Port.chip c.args.port.now in
-    record {
-      byte = ap (λ l. get_or l 0 0) (c.ask.ensures.back ∙ answer-status (get_or c.ask.new.back 0 0) chip);
-      chip = c.ask.ensures.chip ∙ after-status (g.P.Port.chip c.ask.new.port).busy chip;
-      trace = c.ask.ensures.trace;
-    }
+pub returns-clause-byte : goal.returns-clause-byte
+returns-clause-byte g c =
+    ap (λ l. get_or l 0 0) (c.ask.ensures.back ∙ answer-status (get_or c.ask.new.back 0 0) (g.P.Port.chip c.args.port.now))
+
+pub returns-clause-chip : goal.returns-clause-chip
+returns-clause-chip g c = c.ask.ensures.chip ∙ after-status (g.P.Port.chip c.ask.new.port).busy (g.P.Port.chip c.args.port.now)

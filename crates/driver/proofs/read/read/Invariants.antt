@@ -13,6 +13,3 @@ invariant-loop-done g l =
     × (fs ++ reads l.room (l.address + l.done) (length l.initial.into - l.done) ≡ reads l.room l.address (length l.initial.into)))
     × ((g.P.Port.chip l.initial.port).busy ≡ 0 → l.address + length l.initial.into ≤ length (g.P.Port.chip l.initial.port).image
     → take l.done l.into ≡ block l.address l.done (g.P.Port.chip l.initial.port).image)
-
-abbrev pub decreases-loop-done : goal.decreases-loop-done
-decreases-loop-done g l = length l.initial.into - l.done

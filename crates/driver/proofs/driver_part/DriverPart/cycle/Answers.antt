@@ -1,20 +1,22 @@
-use Rattle.std.proofs.Common.{◌≡◌, ℕ, ◌+◌, ◌-◌, ◌*◌, ◌/◌, ◌≤◌, Bool, true, false, not, List, [], ◌∷◌, ◌++◌, length, None, sym, refl, ap, ◌∙◌, arith}
-use Rattle.std.proofs.lemmas.Bool.{true≢false, false≢true, not-true}
+use Rattle.std.proofs.Common.{◌≡◌, ℕ, ◌+◌, ◌-◌, ◌*◌, ◌/◌, ◌≤◌, true, not, List, [], ◌∷◌, ◌++◌, length, None, sym, refl, ap, ◌∙◌}
+use Rattle.std.proofs.lemmas.Bool.{not-true}
+use Rattle.std.proofs.lemmas.Result.{err_from_is_err_and}
 use Rattle.memory.specs.declared.kind.Kind.{Kind}
 use Rattle.memory.specs.Page.{page, blank}
+use Rattle.memory.specs.Cycle.{cycle_of, effect}
 use Rattle.port.specs.Chip as of_chip
 use Rattle.port.specs.Chip.{Chip}
 use Rattle.port.specs.Machine.{after}
 use Rattle.part.specs.declared.outline.Outline.{Outline}
-use Rattle.part.specs.Meaning.{Meaning, protected_at}
+use Rattle.part.specs.Meaning.{carried}
 use Rattle.part.specs.Outline.{outlined, guarding}
-use Rattle.part.specs.Verdict.{told, idle, refusal, inside, fills, permits, presets, clean_at}
-use Rattle.part.proofs.Refusals.{Passes, outlines_cycle, refused_early, soiled, done_all, all_passed}
+use Rattle.part.specs.Verdict.{refusal, inside, fills, permits, presets}
+use Rattle.part.proofs.Refusals.{Passes, all_passed, unrefused}
 use Rattle.driver.specs.Frames.{looks, enable_frame, cycle_frame}
-use Rattle.driver.specs.Driving.{Intact, seen}
+use Rattle.driver.specs.Driving.{Drives, Intact, seen}
 use Rattle.driver.specs.Sending.{sendable, looks_carry, looks-harmless, looks_no_status}
-use Rattle.driver.specs.Seeing.{seen_outline, seen-image, chip_long}
-use Rattle.driver.specs.Driven.{drives_none, drives_quiet, drives_cycle, cycle-image, looked, with_busy}
+use Rattle.driver.specs.Seeing.{chip_long}
+use Rattle.driver.specs.Driven.{drives_none, drives_quiet, drives_cycle, cycle-image, cycle-intact, looked, with_busy}
 use Rattle.driver.proofs.driver_part.DriverPart.cycle.Goals as goal
 
 -- the checks before the page, as the outline and as the meaning has them
@@ -22,112 +24,70 @@ passes : (o : Outline) (kind : Kind) (a n : ℕ) → None ≡ refusal (outlined 
     → Passes (inside (outlined o) kind a) (fills (outlined o) kind n) (not o.busy) (permits (outlined o) (guarding o) kind a)
 passes o kind a n v = all_passed (outlined o) (guarding o) (not o.busy) kind a n true (sym v)
 
-unrefused : (o : Outline) (c : Chip) (kind : Kind) (a n : ℕ) → None ≡ refusal (outlined o) (guarding o) (not o.busy) true kind a n
-    → refusal (outlined o) (protected_at (seen o c)) (idle (seen o c)) true kind a n ≡ None
-unrefused o c kind a n v = sym (v ∙ outlines_cycle o (seen o c) kind a n (seen_outline o c))
+-- what the cycle leaves, once its page was found to be clean
+record Sent (o p : Outline) (c d : Chip) (room : ℕ) (kind : Kind) (a : ℕ) (sent : List ℕ) : Type 0 where
+  intact : Intact p d
+  drives : Drives o c (looks room kind a ++ (enable_frame ∷ cycle_frame kind a sent ∷ [])) p d (carried (cycle_of kind a sent) ∷ [])
+  image : (seen p d).image ≡ effect (outlined o) (cycle_of kind a sent) (seen o c).image
 
--- whether the page is clean, as the meaning has it
-cleanly : (o : Outline) (c : Chip) (kind : Kind) (a n : ℕ) (r : Bool) → of_chip.Sound c → None ≡ refusal (outlined o) (guarding o) (not o.busy) true kind a n
-    → r ≡ presets kind r → (c.busy ≡ 0 → a / 64 * 64 + 64 ≤ length c.image → r ≡ presets kind (blank (page 64 (a / 64) c.image)))
-    → Intact o c → r ≡ presets kind (blank (page 64 (a / 64) c.image))
-cleanly o c kind a n r sound v others clean i =
-    let p = passes o kind a n v in
-    looked o kind a (length c.image) r (blank (page 64 (a / 64) c.image)) (chip_long o c sound i) p.inside others (clean (i.idle (not-true _ p.idle)))
-
-seen_clean : (o : Outline) (c : Chip) (kind : Kind) (a : ℕ) (r : Bool) → of_chip.Sound c → Intact o c → r ≡ presets kind (blank (page 64 (a / 64) c.image))
-    → presets kind (clean_at (seen o c) a) ≡ r
-seen_clean o c kind a r sound i e = ap (λ x. presets kind (blank (page 64 (a / 64) x))) (seen-image o c sound i) ∙ sym e
-
-pub is_clean_for-requires : goal.is_clean_for-requires
-is_clean_for-requires g c =
-    let o : Outline = c.args.self.now.outline in
-    let p = passes o c.args.kind c.args.address (length c.args.data.now) c.in_default.ensures.value in
-    (sendable o c.args.kind c.args.address (length c.args.data.now) p.inside p.fills).0
-
-pub send-requires : goal.send-requires
-send-requires g c =
-    let o : Outline = c.args.self.now.outline in
-    let p = passes o c.args.kind c.args.address (length c.args.data.now) c.in_default.ensures.value in
-    sendable o c.args.kind c.args.address (length c.args.data.now) p.inside p.fills
-
-pub returns-in-Some : goal.returns-in-Some
-returns-in-Some g c =
-    let o : Outline = c.args.self.now.outline in
-    let chip : Chip = g.P.Port.chip c.args.self.now.port in
-    let m : Meaning = seen o chip in
-    let n : ℕ = length c.args.data.now in
-    let v = sym (c.in-Some.ensures.value ∙ outlines_cycle o m c.args.kind c.args.address n (seen_outline o chip)) in
+sends : (o p : Outline) (c m d : Chip) (room : ℕ) (kind : Kind) (a : ℕ) (sent : List ℕ) → of_chip.Sound c → Intact o c
+    → outlined p ≡ outlined o → p.status.bits ≡ o.status.bits → p.busy ≡ true
+    → None ≡ refusal (outlined o) (guarding o) (not o.busy) true kind a (length sent)
+    → true ≡ presets kind true → (c.busy ≡ 0 → a / 64 * 64 + 64 ≤ length c.image → true ≡ presets kind (blank (page 64 (a / 64) c.image)))
+    → m ≡ c → d ≡ after d.busy (after 0 m enable_frame) (cycle_frame kind a sent) → Sent o p c d room kind a sent
+sends o p c m d room kind a sent sound i shape status busy v others clean same e =
+    let q = passes o kind a (length sent) v in
+    let was-idle = not-true _ q.idle in
+    let f = e ∙ ap (λ x. after d.busy (after 0 x enable_frame) (cycle_frame kind a sent)) same in
+    let t = sym (looked o kind a (length c.image) true (blank (page 64 (a / 64) c.image)) (chip_long o c sound i) q.inside others (clean (i.idle was-idle))) in
     record {
-      result = ap told (sym (refused_early m.shape (protected_at m) (idle m) c.args.kind c.args.address n false c.in-Some.fault v));
-      verdict = λ _. ap told (sym (refused_early m.shape (protected_at m) (idle m) c.args.kind c.args.address n (clean_at m c.args.address) c.in-Some.fault v));
-      shape = refl;
-      guarded = refl;
-      undone = λ _. refl;
-      image = λ _ e. absurd (false≢true e);
-      due = λ e. absurd (false≢true e);
-      trace = ([], g.met.P.Port.stays c.args.self.now.port, drives_none o chip);
-      intact = λ i. i;
+      intact = cycle-intact o p c d room kind a sent sound i shape status busy was-idle q.inside q.fills q.permits t f;
+      drives = drives_cycle o p c d room kind a sent sound i shape status busy was-idle q.inside q.fills q.permits t f;
+      image = cycle-image o p c d room kind a sent sound i shape status busy was-idle q.inside q.fills q.permits t f;
     }
 
-pub returns-then-not-is_clean_for : goal.returns-then-not-is_clean_for
-returns-then-not-is_clean_for g c =
+pub returns-in_err-check_cycle-clause-trace : goal.returns-in_err-check_cycle-clause-trace
+returns-in_err-check_cycle-clause-trace g c =
+    let p = err_from_is_err_and c.from_residual.result c.from_residual.ensures.1 in
+    let s = c.args.self.now in rw p.1 ([], g.met.P.Port.stays s.port, drives_none s.outline (g.P.Port.chip s.port))
+
+pub returns-then-not-is_clean_for-clause-trace : goal.returns-then-not-is_clean_for-clause-trace
+returns-then-not-is_clean_for-clause-trace g c =
     let o : Outline = c.args.self.now.outline in
     let port = c.args.self.now.port in
     let chip : Chip = g.P.Port.chip port in
-    let m : Meaning = seen o chip in
     let kind : Kind = c.args.kind in
     let a : ℕ = c.args.address in
-    let n : ℕ = length c.args.data.now in
     let room : ℕ = g.P.Port.longest port - 4 in
-    let sound = (g.met.P.Port.sound port).0 in
-    let u = c.in_default.ensures.value in
-    let v = unrefused o chip kind a n u in
-    let p = passes o kind a n u in
-    let s = (sendable o kind a n p.inside p.fills).0 in
-    let q = c.if-not-is_clean_for.ensures in
-    let e = c.is_clean_for.ensures.chip in
-    let d = drives_quiet o chip (g.P.Port.chip c.is_clean_for.new.port) (looks room kind a) [] e (looks_carry room kind a chip s) (looks-harmless room kind a chip s) (looks_no_status room kind a s) refl refl in
-    record {
-      result = ap told (sym (soiled m.shape (protected_at m) (idle m) kind a n false v (sym q.others)));
-      verdict = λ i. ap told (sym (soiled m.shape (protected_at m) (idle m) kind a n (clean_at m a) v (seen_clean o chip kind a false sound i (cleanly o chip kind a n false sound u q.others q.clean i))));
-      shape = refl;
-      guarded = refl;
-      undone = λ _. ap (seen o) e;
-      image = λ _ f. absurd (false≢true f);
-      due = λ f. absurd (false≢true f);
-      trace = (looks room kind a, c.is_clean_for.ensures.trace, d);
-      intact = d.intact;
-    }
+    let p = passes o kind a (length c.args.data.now) (unrefused _ c.in_ok-check_cycle.ensures.value) in
+    let s = (sendable o kind a (length c.args.data.now) p.inside p.fills).0 in (
+      looks room kind a,
+      c.is_clean_for.ensures.trace,
+      drives_quiet o chip _ (looks room kind a) [] c.is_clean_for.ensures.chip (looks_carry room kind a chip s) (looks-harmless room kind a chip s) (looks_no_status room kind a s) refl refl,
+    )
 
-pub returns : goal.returns
-returns g c =
-    let o : Outline = c.args.self.now.outline in
-    let port = c.args.self.now.port in
-    let chip : Chip = g.P.Port.chip port in
-    let m : Meaning = seen o chip in
-    let kind : Kind = c.args.kind in
-    let a : ℕ = c.args.address in
-    let sent : List ℕ = c.args.data.now in
-    let n : ℕ = length sent in
-    let room : ℕ = g.P.Port.longest port - 4 in
-    let sound = (g.met.P.Port.sound port).0 in
-    let u = c.in_default.ensures.value in
-    let v = unrefused o chip kind a n u in
-    let p = passes o kind a n u in
+pub invariant_of-self-2 : goal.invariant_of-self-2
+invariant_of-self-2 g c =
+    let s = c.args.self.now in
     let q = c.if-not-is_clean_for.ensures in
-    let last : Chip = g.P.Port.chip c.send.new.port in
-    let e : last ≡ after last.busy (after 0 chip enable_frame) (cycle_frame kind a sent) =
-    c.send.ensures.chip ∙ ap (λ x. after last.busy (after 0 x enable_frame) (cycle_frame kind a sent)) c.is_clean_for.ensures.chip in
-    let clean : Intact o chip → presets kind (blank (page 64 (a / 64) chip.image)) ≡ true = λ i. sym (cleanly o chip kind a n true sound u q.others q.clean i) in
-    let d = drives_cycle o _ chip last room kind a sent sound refl refl refl (not-true _ p.idle) p.inside p.fills p.permits clean e in
-    record {
-      result = ap told (sym v);
-      verdict = λ i. ap told (sym (done_all m.shape (protected_at m) (idle m) kind a n (clean_at m a) v (seen_clean o chip kind a true sound i (sym (clean i)))));
-      shape = refl;
-      guarded = refl;
-      undone = λ f. absurd (true≢false f);
-      image = λ i _. cycle-image o (with_busy true o) chip last room kind a sent sound refl refl refl (not-true _ p.idle) p.inside p.fills p.permits clean e (g.met.P.Port.sound c.send.new.port).0 i;
-      due = λ _. omega arith;
-      trace = (looks room kind a ++ (enable_frame ∷ cycle_frame kind a sent ∷ []), g.met.P.Port.joins _ _ _ _ _ c.is_clean_for.ensures.trace c.send.ensures.trace, d);
-      intact = d.intact;
-    }
+    let n = sends s.outline _ (g.P.Port.chip s.port) _ _ 0 c.args.kind c.args.address c.args.data.now (g.met.P.Port.sound s.port).0 s.intact refl refl refl
+    (unrefused _ c.in_ok-check_cycle.ensures.value) q.others q.clean c.is_clean_for.ensures.chip c.send.ensures.chip in record { intact = n.intact }
+
+pub returns-clause-image : goal.returns-clause-image
+returns-clause-image g c = λ _ _.
+    let s = c.args.self.now in
+    let q = c.if-not-is_clean_for.ensures in
+    let n = sends s.outline (with_busy true s.outline) (g.P.Port.chip s.port) _ _ 0 c.args.kind c.args.address c.args.data.now (g.met.P.Port.sound s.port).0 s.intact refl refl refl
+    (unrefused _ c.in_ok-check_cycle.ensures.value) q.others q.clean c.is_clean_for.ensures.chip c.send.ensures.chip in n.image
+
+pub returns-clause-trace : goal.returns-clause-trace
+returns-clause-trace g c =
+    let s = c.args.self.now in
+    let q = c.if-not-is_clean_for.ensures in
+    let room : ℕ = g.P.Port.longest s.port - 4 in
+    let n = sends s.outline (with_busy true s.outline) (g.P.Port.chip s.port) _ _ room c.args.kind c.args.address c.args.data.now (g.met.P.Port.sound s.port).0 s.intact refl refl refl
+    (unrefused _ c.in_ok-check_cycle.ensures.value) q.others q.clean c.is_clean_for.ensures.chip c.send.ensures.chip in (
+      looks room c.args.kind c.args.address ++ (enable_frame ∷ cycle_frame c.args.kind c.args.address c.args.data.now ∷ []),
+      g.met.P.Port.joins _ _ _ _ _ c.is_clean_for.ensures.trace c.send.ensures.trace,
+      n.drives,
+    )

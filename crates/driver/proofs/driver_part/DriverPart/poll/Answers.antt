@@ -2,12 +2,12 @@ use Rattle.std.proofs.Common.{◌≡◌, not, ◌&&◌, eqb, [], ◌∷◌, sym,
 use Rattle.port.specs.Chip.{Chip}
 use Rattle.part.specs.declared.outline.Outline.{Outline}
 use Rattle.driver.specs.Frames.{status_frame}
-use Rattle.driver.specs.Driven.{drives_poll, seen-waited, seen-idle, with_busy}
+use Rattle.driver.specs.Driven.{drives_poll}
 use Rattle.driver.proofs.driver_part.DriverPart.poll.Goals as goal
 use Rattle.driver.proofs.driver_part.DriverPart.poll.Goals.{then-self, else-self}
 
-pub returns : goal.returns
-returns g c =
+pub returns-clause-trace : goal.returns-clause-trace
+returns-clause-trace g c =
     let o : Outline = c.args.self.now.outline in
     let chip : Chip = g.P.Port.chip c.args.self.now.port in
     let e = c.is_busy-busy.ensures.chip in
@@ -15,10 +15,4 @@ returns g c =
       | then-self w ↦ w.self-is ∙ c.is_busy-busy.ensures.busy ∙ sym (ap (λ x. x && not (eqb chip.busy 0)) w.if-self.true)
       | else-self w ↦ w.self-is ∙ w.if-self.false ∙ sym (ap (λ x. x && not (eqb chip.busy 0)) w.if-self.false)
     ] in
-    let d = drives_poll o _ chip (g.P.Port.chip c.is_busy-busy.new.port) refl refl b e in
-    record {
-      idle = seen-idle (with_busy c.if-self.self o) (g.P.Port.chip c.is_busy-busy.new.port);
-      waited = seen-waited o (with_busy c.if-self.self o) chip (g.P.Port.chip c.is_busy-busy.new.port) refl refl b e;
-      trace = (status_frame ∷ [], c.is_busy-busy.ensures.trace, d);
-      intact = d.intact;
-    }
+    (status_frame ∷ [], c.is_busy-busy.ensures.trace, drives_poll o _ chip (g.P.Port.chip c.is_busy-busy.new.port) refl refl b e)

@@ -3,4 +3,4 @@ use Rattle.part.specs.Guards.{guard_at}
 use Rattle.part.proofs.outline.Outline.protects.Goals as goal
 
 pub returns : goal.returns
-returns c = let o = c.args.self.now in c.is_protected.ensures ∙ sym (guard_at o.status o.sectors c.args.sector)
+returns c = let o = c.args.self.now in c.protects.ensures ∙ sym (guard_at o.status.bits o.geometry.sectors c.args.sector)

@@ -1,5 +1,4 @@
 use Rattle.std.proofs.Common.{◌≡◌, ◌-◌, Bool, true, false, cond, refl, ap}
-use Rattle.part.specs.Meaning.{waited}
 use Rattle.part.specs.Plain.{plainly}
 use Rattle.part.specs.Playing.{played_poll}
 use Rattle.part.proofs.plain_part.PlainImagePart.poll.Goals as goal
@@ -9,9 +8,7 @@ none_due : (b : Bool) → 0 ≡ cond b 1 0 - 1
 none_due true = refl
 none_due false = refl
 
-pub returns : goal.returns
-returns c =
+pub returns-clause-trace : goal.returns-clause-trace
+returns-clause-trace c =
     let m = plainly c.args.self.now in
-    let e : record { shape = m.shape; image = m.image; guarded = m.guarded; due = 0 } ≡ waited m =
-    ap (λ d. record { shape = m.shape; image = m.image; guarded = m.guarded; due = d }) (none_due c.args.self.now.busy) in
-    record { idle = refl; waited = e; trace = played_poll _ _ e; intact = λ _. tt }
+    played_poll _ _ (ap (λ d. record { shape = m.shape; image = m.image; guarded = m.guarded; due = d }) (none_due c.args.self.now.busy))
