@@ -26,7 +26,7 @@ pub(crate) fn overlay(run: &mut [u8], at: usize, write: Write<'_>)
     requires { at + length run.old < 2 ^ 64 }
     ensures { run.new ≡ overlaid write.entry.address write.entry.bytes.now at run.old }
 {
-    for i in 0..run.len() {
-        run[i] = wanted_at(write, at + i, run[i]);
+    for (i, byte) in run.iter_mut().enumerate() {
+        *byte = wanted_at(write, at + i, *byte);
     }
 }
