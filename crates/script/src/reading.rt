@@ -6,13 +6,17 @@ use crate::making::blank_chip;
 use crate::numbers::{byte, decimal};
 use crate::script::{Room, Script};
 use calls::call::Call;
+use part::limit::MOST_POLLS;
 use std::alloc::Global;
+
+// What there is room for where a script does not say.
+const ROOM: Room = Room {
+    steps: 512,
+    bytes: 65536,
+};
 
 // The most steps that there can be room for.
 const MOST_STEPS: usize = 1048576;
-
-// The poll limit where a script does not say.
-const LIMIT: usize = 4096;
 
 // The bytes of all reads and writes together.
 const MOST_ALL: usize = 268435456;
@@ -22,6 +26,7 @@ pub(crate) struct Reading {
     heap: Global,
     // what is read, from the chip on
     script: Option<Script>,
+    // the poll limit of the writes that follow
     limit: usize,
     // how many bytes the rest of the calls may have
     left: usize,
@@ -32,7 +37,7 @@ impl Reading {
         Reading {
             heap,
             script: None,
-            limit: LIMIT,
+            limit: MOST_POLLS,
             left: MOST_ALL,
         }
     }
@@ -73,7 +78,7 @@ impl Reading {
         let chip = blank_chip(self.heap, byte(capacity)?, byte(status)?, decimal(busy)?)?;
         self.script = Some(Script {
             chip,
-            room: Room::default(),
+            room: ROOM,
             calls: Vec::new(self.heap),
         });
         Ok(())
