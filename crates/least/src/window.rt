@@ -42,6 +42,7 @@ pub fn window(old: &[u8], new: &[u8]) -> Option<Run>
         start: first,
         length: size,
     };
+    // by the places, which are what is reckoned with: pairs with their places, after the first, are no plainer
     for place in first + 1..size {
         if old[place] != new[place] {
             let length = size - (place - last) + 1;

@@ -33,6 +33,7 @@ fn change_in<P: Part>(part: &mut P, write: Write<'_>, first: usize, count: usize
     ensures looked { LookedBy P.Part.meaning P.Part.trace P.Part.intact (64 * count) part.old part.new }
     ensures value { P.Part.intact part.old → FirstIn (first * 64) ((first + count) * 64) (P.Part.meaning part.old).image (wanted (P.Part.meaning part.old) write.entry.address write.entry.bytes.now) result }
 {
+    // no `find_map`: tried, and a chain carries no invariant, so that nothing is known of the part at its closure's next call
     for q in first..first + count {
         if let Some(place) = change(part, write, q) {
             return Some(place);

@@ -53,18 +53,17 @@ fn sector_cost<P: Part>(part: &mut P, write: Write<'_>, k: usize) -> Sector
 
 // What the sectors cost together, and the presets of all touched pages. Marks the sectors that are erased first.
 fn sector_costs<P: Part>(part: &mut P, write: Write<'_>, erased: &mut [bool]) -> Costs
-    requires { Fitting (P.Part.meaning part.old) write.address write.bytes.now × (length erased.old ≡ 128) }
+    requires { Fitting (P.Part.meaning part.old) write.address write.bytes.now × (length erased.old ≡ (P.Part.meaning part.old).shape.sectors) }
     ensures looked { LookedBy P.Part.meaning P.Part.trace P.Part.intact (whole (P.Part.meaning part.old)) part.old part.new }
     ensures bound { (result.presets.0 ≤ 262144) × (result.presets.1 ≤ 16777216) }
     ensures value { P.Part.intact part.old → result.cost ≡ by_sectors (P.Part.meaning part.old) write.entry.address write.entry.bytes.now }
     ensures touched { P.Part.intact part.old → result.presets ≡ on_all (P.Part.meaning part.old) write.entry.address write.entry.bytes.now }
     ensures marks { P.Part.intact part.old → (k : ℕ) → k < (P.Part.meaning part.old).shape.sectors → slice_index_or erased.new k false ≡ erases (P.Part.meaning part.old) write.entry.address write.entry.bytes.now k }
 {
-    let sectors = part.sectors();
     let mut costs = Costs::NONE;
-    for k in 0..sectors {
+    for (k, mark) in erased.iter_mut().enumerate() {
         let sector = sector_cost(part, write, k);
-        erased[k] = sector.erased;
+        *mark = sector.erased;
         costs += sector.costs;
     }
     costs
@@ -96,7 +95,8 @@ pub(crate) fn choose<P: Part>(part: &mut P, write: Write<'_>) -> Choice
     ensures value { P.Part.intact part.old → Chosen (P.Part.meaning part.old) write.entry.address write.entry.bytes.now result }
 {
     let mut erased = [false; MOST_SECTORS];
-    let sectors = sector_costs(part, write, &mut erased);
+    let count = part.sectors();
+    let sectors = sector_costs(part, write, &mut erased[..count]);
     match bulk_cost(part, write, sectors.presets, sectors.cost) {
         Some(cost) => Choice {
             erasure: Erasure::All,

@@ -38,7 +38,8 @@ pub(crate) fn touches(write: Write<'_>, q: usize) -> bool
     start < write.address + write.bytes.len() && write.address < start + PAGE_BYTES
 }
 
-// Page q as it stands, and as a write wants it.
+// Page q as it stands, and as a write wants it. A struct of the part and the write would trade this `requires` and those like it for
+// an `ensures` in each function that it still holds the same reference, which is no plainer.
 pub(crate) fn both_pages<P: Part>(part: &mut P, write: Write<'_>, q: usize) -> (Page, Page)
     requires { Fitting (P.Part.meaning part.old) write.address write.bytes.now × Readable (P.Part.meaning part.old) q }
     ensures looked { LookedBy P.Part.meaning P.Part.trace P.Part.intact 64 part.old part.new }
