@@ -3,6 +3,7 @@ pub mod Carries
 pub mod Driving
 pub mod Attach
 pub mod Means
+pub mod Fitted
 pub mod Seeing
 pub mod Driven
 pub mod Hearing

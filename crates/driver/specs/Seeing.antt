@@ -1,26 +1,18 @@
 -- The chip as a driver sees it.
 use Rattle.std.specs.Prelude.{◌≡◌, ℕ, ◌+◌, Bool, true, false, cond, not, length, ◌==◌, refl}
 use Rattle.std.proofs.Common.{sym, ap, subst, ◌∙◌, arith}
-use Rattle.memory.specs.Shape.{Shape, Imaged, size}
+use Rattle.memory.specs.Shape.{size}
 use Rattle.port.specs.Chip as of_chip
 use Rattle.port.specs.Chip.{Chip, shape}
 use Rattle.part.specs.declared.outline.Outline.{Outline}
 use Rattle.part.specs.Meaning.{Sound}
 use Rattle.part.specs.Outline.{Outlines, outlined}
 use Rattle.part.specs.Verdict.{idle}
-use Rattle.part.specs.Guards.{length-guards}
 use Rattle.driver.specs.Driving.{seen, Intact}
+use Rattle.driver.specs.Fitted.{fitted-sound, fitted_is}
 
 pub seen-sound : (o : Outline) (c : Chip) → of_chip.Sound c → Intact o c → Sound (seen o c)
-seen-sound o c s i = record {
-  some = o.geometry.some;
-  few = o.geometry.few;
-  paged = o.geometry.paged;
-  low = o.geometry.low;
-  page = refl;
-  each = length-guards o.status.bits o.geometry.sectors;
-  imaged = let I : Shape → Type 0 = λ m. Imaged m c.image in subst I i.shape s.imaged;
-}
+seen-sound o c s i = subst Sound (fitted_is o c s i) (fitted-sound o c s)
 
 -- polls are due exactly while the outline says so
 due-idle : (b : Bool) (n : ℕ) → not b ≡ (cond b (n + 1) 0 == 0)
