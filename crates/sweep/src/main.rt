@@ -75,18 +75,21 @@ fn plan_all(rt: &HostRuntime) -> anyhow::Result<()> {
     let bytes = vec![in heap; 0xA5; BYTES]?;
     let mut steps = vec![in heap; Step::UNUSED; BYTES / PAGE_BYTES]?;
     let mut data = vec![in heap; 0; BYTES]?;
-    let mut part = PlainImage::new(SECTORS, PAGES, STATUS, image)
-        .map_err(|_| anyhow!("the plain image cannot be made"))?;
-    let (cycles, sent) = plan(&mut part, 0, &bytes, &mut steps, &mut data)
-        .map_err(|_| anyhow!("the write is not planned"))?;
+    let mut part = PlainImage::new(SECTORS, PAGES, STATUS, image).map_err(|_| anyhow!(
+        "the plain image cannot be made"
+    ))?;
+    let (cycles, sent) = plan(&mut part, 0, &bytes, &mut steps, &mut data).map_err(|_| anyhow!(
+        "the write is not planned"
+    ))?;
     println!(rt; "a write of all of it: {cycles} cycles, {sent} bytes")?;
     Ok(())
 }
 
 fn main(rt: HostRuntime) -> anyhow::Result<()> {
     let image = vec![in rt.alloc(); 0; BYTES]?;
-    let mut chip = BenchChip::new(CAPACITY, image, STATUS, 0)
-        .map_err(|_| anyhow!("the chip cannot be made"))?;
+    let mut chip = BenchChip::new(CAPACITY, image, STATUS, 0).map_err(|_| anyhow!(
+        "the chip cannot be made"
+    ))?;
     let blank = erased(&mut chip).map_err(|_| anyhow!("a frame was too long"))?;
     println!(rt; "{blank} bytes are FFh, read in {FRAMES} frames")?;
     let mut bytes = vec![in rt.alloc(); 0; BYTES]?;

@@ -70,16 +70,17 @@ fn is_written(trial: &Trial, image: &[u8]) -> bool {
 }
 
 fn over_plain(heap: Global, trial: &Trial) -> anyhow::Result<Outcome> {
-    let mut part = PlainImage::new(SECTORS, PAGES, trial.status, trial.image.clone()?)
-        .map_err(|_| anyhow!("the plain image cannot be made"))?;
+    let mut part = PlainImage::new(SECTORS, PAGES, trial.status, trial.image.clone()?).map_err(
+        |_| anyhow!("the plain image cannot be made"),
+    )?;
     Ok(attempt(heap, &mut part, trial)?)
 }
 
 fn over_chip(heap: Global, trial: &Trial) -> anyhow::Result<Outcome> {
-    let chip = BenchChip::new(CAPACITY, trial.image.clone()?, trial.status, BUSY)
-        .map_err(|_| anyhow!("the chip cannot be made"))?;
-    let mut part =
-        attach(chip, MOST_POLLS).map_err(|_| anyhow!("the driver does not attach"))?;
+    let chip = BenchChip::new(CAPACITY, trial.image.clone()?, trial.status, BUSY).map_err(
+        |_| anyhow!("the chip cannot be made"),
+    )?;
+    let mut part = attach(chip, MOST_POLLS).map_err(|_| anyhow!("the driver does not attach"))?;
     Ok(attempt(heap, &mut part, trial)?)
 }
 
