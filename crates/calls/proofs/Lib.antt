@@ -1,5 +1,4 @@
 pub mod Owing
 pub mod Rows
-pub mod Reading
 pub mod Writing
 pub mod Histories

@@ -119,7 +119,7 @@ module _ {P : Type 0} (meaning : P → Meaning) (trace : P → P → List Event 
       least_of _ _ _ (theorems.written cost list fresh inside least counts few short) = least
 
       written_owed : (cost : ℕ × ℕ) (ys : List Cycle) → LeastBy (m f).shape (protected_at (m f)) (m f).image (wanted (m f) address bytes) ys cost
-          → Did m t whole [] ys f g → (m g).due ≡ 0 → whole f → Owes f (answers.Written cost.0 cost.1) g
+          → Did m t whole [] ys f g → (m g).due ≡ 0 → whole f → Owes f (answers.Written cost) g
       written_owed cost ys least d quiet i held =
           let leaves : (m g).image ≡ wanted (m f) address bytes = sym (d.goes i).1 ∙ least.goes.1 in
           record {

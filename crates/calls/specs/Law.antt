@@ -14,7 +14,7 @@ use Rattle.calls.specs.Causes.{Cause, Passes, NothingLeads, wanted, Unaltered, D
 -- the call is refused as protected
 abbrev pub IsProtected : Answer → Type 0
 IsProtected Done = ⊥
-IsProtected (Written cycles bytes) = ⊥
+IsProtected (Written cost) = ⊥
 IsProtected (Refused refusal) = (row refusal).number ≡ 4
 IsProtected (Abandoned cycles) = ⊥
 
@@ -32,7 +32,7 @@ module _ {P : Type 0} (meaning : P → Meaning) (trace : P → P → List Event 
   ReadLaw ref (closing sector) held answer = Unit {0}
   ReadLaw ref (opening sector) held answer = Unit {0}
   ReadLaw ref (reading address n) held Done = Holds ref.image (λ image. held ≡ block address n image)
-  ReadLaw ref (reading address n) held (Written cycles bytes) = ⊥
+  ReadLaw ref (reading address n) held (Written cost) = ⊥
   ReadLaw ref (reading address n) held (Refused refusal) = Unit {0}
   ReadLaw ref (reading address n) held (Abandoned cycles) = ⊥
   ReadLaw ref (writing address bytes limit) held answer = Unit {0}
@@ -44,7 +44,7 @@ module _ {P : Type 0} (meaning : P → Meaning) (trace : P → P → List Event 
   EffectLaw f (opening sector) answer g = (g.part ≡ f.part)
   EffectLaw f (reading address n) answer g = (meant g ≡ meant f) × Unaltered meant Traced f g
   EffectLaw f (writing address bytes limit) Done g = ⊥
-  EffectLaw f (writing address bytes limit) (Written cycles sent) g = DoneWrite meant Traced address bytes limit (cycles, sent) f g
+  EffectLaw f (writing address bytes limit) (Written cost) g = DoneWrite meant Traced address bytes limit cost f g
   EffectLaw f (writing address bytes limit) (Refused refusal) g = Unaltered meant Traced f g
   EffectLaw f (writing address bytes limit) (Abandoned cycles) g = AbandonedWrite meant Traced address bytes limit cycles f g
 
@@ -61,7 +61,7 @@ module _ {P : Type 0} (meaning : P → Meaning) (trace : P → P → List Event 
   -- each refusal has its cause
   abbrev pub CauseLaw : ℕ → ℕ → Fence P → Request → Answer → Type 0
   CauseLaw steps room f request Done = Unit {0}
-  CauseLaw steps room f request (Written cycles bytes) = Unit {0}
+  CauseLaw steps room f request (Written cost) = Unit {0}
   CauseLaw steps room f request (Refused refusal) = Cause (meant f) steps room request refusal
   CauseLaw steps room f request (Abandoned cycles) = Unit {0}
 

@@ -21,7 +21,7 @@ part_answer (Ok u) = Done
 part_answer (Err fault) = Refused (Part fault)
 
 abbrev pub write_answer : Result (ℕ × ℕ) WriteFault → Answer
-write_answer (Ok cost) = Written cost.0 cost.1
+write_answer (Ok cost) = Written cost
 write_answer (Err (writes.Limit limit)) = Refused (Write (writes.Limit limit))
 write_answer (Err (writes.Outside address)) = Refused (Write (writes.Outside address))
 write_answer (Err (writes.StillBusy polls)) = Refused (Write (writes.StillBusy polls))

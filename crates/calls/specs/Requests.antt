@@ -35,9 +35,13 @@ pub data Outcome : Type 0 where
 
 abbrev pub outcome : Answer → Outcome
 outcome Done = done
-outcome (Written cycles bytes) = done
+outcome (Written cost) = done
 outcome (Refused refusal) = refused
 outcome (Abandoned cycles) = abandoned
+
+-- a call as it was left, and its answer
+abbrev pub entry : Call → Answer → Entry
+entry call answer = record { call = call; answer = answer }
 
 -- the call that was handed in: only a done read's buffer is another
 pub record Recorded (call : Call) (e : Entry) : Type 0 where

@@ -1,4 +1,8 @@
 // The calls that are made to a fence, and what comes of them.
+ghost use Rattle.std.specs.Prelude.{◌≡◌};
+ghost use Rattle.calls.specs.Refusals.{part_answer, write_answer};
+
+use least::cost::Cost;
 use part::fault::PartFault;
 use writing::fault::WriteFault;
 
@@ -31,14 +35,39 @@ pub enum Refusal {
     Write(WriteFault),
 }
 
+// No Result: an abandoned write is neither done nor refused.
 #[derive(Clone, Copy)]
 pub enum Answer {
     Done,
-    // a done write: the cycles and the data bytes that it sent
-    Written(usize, usize),
+    // a done write: what it sent
+    Written(Cost),
     Refused(Refusal),
     // a write that was abandoned: the cycles sent
     Abandoned(usize),
+}
+
+// Of a close, an open or a read.
+impl From<Result<(), PartFault>> for Answer {
+    ghost from_gives = { λ res answer. answer ≡ part_answer res };
+
+    fn from(res: Result<(), PartFault>) -> Answer {
+        match res {
+            Ok(()) => Answer::Done,
+            Err(fault) => Answer::Refused(Refusal::Part(fault)),
+        }
+    }
+}
+
+impl From<Result<Cost, WriteFault>> for Answer {
+    ghost from_gives = { λ res answer. answer ≡ write_answer res };
+
+    fn from(res: Result<Cost, WriteFault>) -> Answer {
+        match res {
+            Ok(cost) => Answer::Written(cost),
+            Err(WriteFault::Abandoned(cycles)) => Answer::Abandoned(cycles),
+            Err(fault) => Answer::Refused(Refusal::Write(fault)),
+        }
+    }
 }
 
 // A call as it was handed in, but that a done read's buffer is filled, and its answer.

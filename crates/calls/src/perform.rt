@@ -39,8 +39,9 @@ pub fn perform<P: Part>(
         return Err(Unperformed { part, calls });
     };
     let mut fence = Fence::new(part);
-    for call in calls {
-        record.push_reserved(make(&mut fence, call, steps, data));
+    for mut call in calls {
+        let answer = make(&mut fence, &mut call, steps, data);
+        record.push_reserved(Entry { call, answer });
     }
     Ok(Performed { record, fence })
 }

@@ -1,6 +1,8 @@
 -- A write to a part with nothing due, from what planning and running promise.
 use Rattle.std.proofs.Common.{◌≡◌, ℕ, ◌-◌, ◌<◌, true, List, [], ◌++◌, length, get_or, take, Ok, Err, Result, sym, refl, ap, ◌∙◌, subst, arith, take_at}
-use Rattle.std.proofs.lemmas.Bool.{both_ways}
+use Rattle.std.proofs.lemmas.Bool.{both_ways, eq-eqb}
+use Rattle.std.specs.Result.{IsErrAnd}
+use Rattle.std.proofs.lemmas.Result.{err_from_is_err_and}
 use Rattle.memory.specs.Page.{put}
 use Rattle.memory.specs.Cycle.{Cycle}
 use Rattle.part.specs.Meaning as of_part
@@ -77,15 +79,20 @@ module _ {P : Type 0} (meaning : P → Meaning) (trace : P → P → List Event 
       abbrev answer : P → Answer
       answer a = plan_over (meaning a) address bytes (length steps) (length sent)
 
+      -- what holds of an error holds of the one that `?` made of it
+      pub carried_as : (a b : P) (r : Result (ℕ × ℕ) WriteFault) (fault : WriteFault) → IsErrAnd r (λ f. f ≡ fault) → Here a b (Err fault) → Here a b r
+      carried_as a b r fault e h =
+          let p = err_from_is_err_and r e in subst (λ (x : Result (ℕ × ℕ) WriteFault). Here a b x) (sym (p.1 ∙ ap Err p.2)) h
+
       handed : (a : P) (r : Result (ℕ × ℕ) PlanFault) → idle (meaning a) ≡ true
           → Handed (plan_call (meaning a) address bytes (length steps) (length sent)) r steps steps' sent sent'
           → Handed (answer a) r steps steps' sent sent'
       handed a r q h = subst (λ (x : Answer). Handed x r steps steps' sent sent') (call_idle (meaning a) address bytes (length steps) (length sent) q) h
 
-      pub carried-unplanned : (a b : P) (fault : PlanFault) → idle (meaning a) ≡ true → Looked meaning trace intact a b
+      pub carried-unplanned : (a b : P) (fault : PlanFault) → (meaning a).due ≡ 0 → Looked meaning trace intact a b
           → Handed (plan_call (meaning a) address bytes (length steps) (length sent)) (Err fault) steps steps' sent sent'
           → Here a b (Err (unplanned_as fault))
-      carried-unplanned a b fault q look h = go (answer a) refl (handed a (Err fault) q h)
+      carried-unplanned a b fault q look h = go (answer a) refl (handed a (Err fault) (eq-eqb _ _ q) h)
         where
           go : (x : Answer) → answer a ≡ x → Handed x (Err fault) steps steps' sent sent' → Here a b (Err (unplanned_as fault))
           go (refused told) e t =
@@ -160,12 +167,16 @@ module _ {P : Type 0} (meaning : P → Meaning) (trace : P → P → List Event 
         carried_run to _ (running.abandoned {a = x} {b = y} {c = still} on due wait k s lt split sends idle step over stop) =
             abandoned k s cost list fresh plan.is plan.filled lt split (did_over fresh [] _ a y (so_far wait sends)) idle step over stop
 
-        -- the run of the buffers' fronts, as long as the cost says
-        pub carried_cut : (to : P) (n d : ℕ) (r : Result ℕ RunFault) → n ≡ cost.0 → d ≡ cost.1
-            → Ran meaning trace intact (take d sent') limit (take n steps') mid to r → Here a to (ended cost r)
-        carried_cut to n d r e f x =
-            carried_run to r
-            (subst (λ (l : List Step). Ran meaning trace intact fresh limit l mid to r)
-            (ap (take n) plan.filled.0 ∙ take_at list _ n (omega (arith, e, ap (λ (y : ℕ × ℕ). y.0) plan.counts)))
-            (subst (λ (l : List ℕ). Ran meaning trace intact l limit (take n steps') mid to r)
-            (ap (take d) plan.filled.1 ∙ take_at fresh _ d (omega (arith, f, ap (λ (y : ℕ × ℕ). y.1) plan.counts))) x))
+      -- a plan that was handed out, and the run of the buffers' fronts, as long as its cost says
+      pub carried-ran : (a mid to : P) (cost : ℕ × ℕ) (n d : ℕ) (r : Result ℕ RunFault) → Sound (meaning a) → ((i : ℕ) → get_or bytes i 0 < 256)
+          → allowed limit ≡ true → (meaning a).due ≡ 0 → intact a → Looked meaning trace intact a mid
+          → Handed (plan_call (meaning a) address bytes (length steps) (length sent)) (Ok cost) steps steps' sent sent'
+          → ◌≡◌ {A = ℕ × ℕ} (n, d) cost → Ran meaning trace intact (take d sent') limit (take n steps') mid to r → Here a to (ended cost r)
+      carried-ran a mid to cost n d r S small on' q i look h e x =
+          let plan = handed_plan a cost S small (eq-eqb _ _ q) h in
+          let counts : ◌≡◌ {A = ℕ × ℕ} (n, d) (length plan.list, length plan.fresh) = e ∙ plan.counts in
+          carried_run a mid cost plan q on' i look to r
+          (subst (λ (l : List Step). Ran meaning trace intact plan.fresh limit l mid to r)
+          (ap (take n) plan.filled.0 ∙ take_at plan.list _ n (omega (arith, ap (λ (y : ℕ × ℕ). y.0) counts)))
+          (subst (λ (l : List ℕ). Ran meaning trace intact l limit (take n steps') mid to r)
+          (ap (take d) plan.filled.1 ∙ take_at plan.fresh _ d (omega (arith, ap (λ (y : ℕ × ℕ). y.1) counts))) x))

@@ -1,7 +1,11 @@
 // Why a write is not done. specs/WriteRows.antt gives each case its layer, number and values.
 ghost use Rattle.std.specs.Prelude.{◌≡◌};
+ghost use Rattle.writing.specs.WriteRows.{unplanned_as, unrun_as};
 
+use least::cost::Cost;
 use part::fault::PartFault;
+use planner::fault::PlanFault;
+use planner::run_fault::RunFault;
 
 #[derive(Clone, Copy, PartialEq, Eq, Debug)]
 pub enum WriteFault {
@@ -14,11 +18,39 @@ pub enum WriteFault {
     // the lowest byte of a protected sector that would have to change
     Protected(usize),
     // the step list has no room for a plan of this cost
-    StepsShort((usize, usize)),
+    StepsShort(Cost),
     // the data buffer has none
-    DataShort((usize, usize)),
+    DataShort(Cost),
     // polls were due beyond the limit after a cycle: the write was abandoned; the cycles sent
     Abandoned(usize),
     // the part refused a step of the plan, which no intact part does; steps count from 0
     Refused { step: usize, fault: PartFault },
+}
+
+impl From<PlanFault> for WriteFault {
+    ghost from_gives = { λ fault made. made ≡ unplanned_as fault };
+
+    // A write plans once nothing is due, so polls that are due then were never made.
+    fn from(fault: PlanFault) -> WriteFault {
+        match fault {
+            PlanFault::Outside(address) => WriteFault::Outside(address),
+            PlanFault::Busy => WriteFault::StillBusy(0),
+            PlanFault::Protected(address) => WriteFault::Protected(address),
+            PlanFault::StepsShort(cost) => WriteFault::StepsShort(cost),
+            PlanFault::DataShort(cost) => WriteFault::DataShort(cost),
+        }
+    }
+}
+
+impl From<RunFault> for WriteFault {
+    ghost from_gives = { λ fault made. made ≡ unrun_as fault };
+
+    fn from(fault: RunFault) -> WriteFault {
+        match fault {
+            RunFault::Limit(limit) => WriteFault::Limit(limit),
+            RunFault::StillBusy(polls) => WriteFault::StillBusy(polls),
+            RunFault::Refused { step, fault } => WriteFault::Refused { step, fault },
+            RunFault::Abandoned(cycles) => WriteFault::Abandoned(cycles),
+        }
+    }
 }

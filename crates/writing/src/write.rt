@@ -2,41 +2,17 @@
 ghost use Rattle.std.specs.Prelude.{◌≡◌, ℕ, ◌+◌, ◌<◌, ◌≤◌, true, List, length, slice_index};
 ghost use Rattle.memory.specs.Shape.{size};
 ghost use Rattle.planner.specs.Running.{allowed};
-ghost use Rattle.writing.specs.WriteRows.{unplanned_as, unrun_as};
 ghost use Rattle.writing.specs.Wrote.{Carried, Wrote, buffers};
 
 use crate::fault::WriteFault;
+use least::cost::Cost;
 use least::step::Step;
+use part::limit::is_limit;
 use part::part::Part;
 use part::size::{is_inside, size_of};
-use planner::fault::PlanFault;
 use planner::plan::plan;
-use planner::run::{MOST_POLLS, run};
-use planner::run_fault::RunFault;
+use planner::run::run;
 use planner::wait::wait;
-
-fn unplanned(fault: PlanFault) -> WriteFault
-    ensures { result ≡ unplanned_as fault }
-{
-    match fault {
-        PlanFault::Outside(address) => WriteFault::Outside(address),
-        PlanFault::Busy => WriteFault::StillBusy(0),
-        PlanFault::Protected(address) => WriteFault::Protected(address),
-        PlanFault::StepsShort(cost) => WriteFault::StepsShort(cost),
-        PlanFault::DataShort(cost) => WriteFault::DataShort(cost),
-    }
-}
-
-fn unrun(fault: RunFault) -> WriteFault
-    ensures { result ≡ unrun_as fault }
-{
-    match fault {
-        RunFault::Limit(limit) => WriteFault::Limit(limit),
-        RunFault::StillBusy(polls) => WriteFault::StillBusy(polls),
-        RunFault::Refused { step, fault } => WriteFault::Refused { step, fault },
-        RunFault::Abandoned(cycles) => WriteFault::Abandoned(cycles),
-    }
-}
 
 // A write that lies inside a part with nothing due.
 fn carry_out<P: Part>(
@@ -46,19 +22,18 @@ fn carry_out<P: Part>(
     steps: &mut [Step],
     data: &mut [u8],
     limit: usize,
-) -> Result<(usize, usize), WriteFault>
+) -> Result<Cost, WriteFault>
     requires idle { (allowed limit ≡ true) × (address + length bytes.now ≤ size (P.Part.meaning part.old).shape) × ((P.Part.meaning part.old).due ≡ 0) }
     requires byte { (i : ℕ) → slice_index bytes.now i < 256 }
     ensures { P.Part.intact part.old → Carried P.Part.meaning P.Part.trace P.Part.intact limit address bytes.now (buffers steps.old steps.new «data».old «data».new) part.old part.new result }
 {
-    let (cycles, sent) = match plan(part, address, bytes, steps, data) {
-        Ok(cost) => cost,
-        Err(fault) => return Err(unplanned(fault)),
-    };
-    match run(part, &steps[0..cycles], &data[0..sent], limit) {
-        Ok(_) => Ok((cycles, sent)),
-        Err(fault) => Err(unrun(fault)),
-    }
+    let cost = plan(part, address, bytes, steps, data)?;
+    let Cost {
+        cycles,
+        bytes: sent,
+    } = cost;
+    run(part, &steps[..cycles], &data[..sent], limit)?;
+    Ok(cost)
 }
 
 // Writes bytes at an address at the least cost, and answers it: cycles and data bytes sent. The checks in their order: the
@@ -71,10 +46,10 @@ pub fn write<P: Part>(
     steps: &mut [Step],
     data: &mut [u8],
     limit: usize,
-) -> Result<(usize, usize), WriteFault>
+) -> Result<Cost, WriteFault>
     ensures { Wrote P.Part.meaning P.Part.trace P.Part.intact limit address bytes.now (buffers steps.old steps.new «data».old «data».new) part.old part.new result }
 {
-    if limit == 0 || limit > MOST_POLLS {
+    if !is_limit(limit) {
         return Err(WriteFault::Limit(limit));
     }
     if !is_inside(size_of(part), address, bytes.len()) {

@@ -4,7 +4,7 @@ use Rattle.std.proofs.lemmas.List.{nil_from_length}
 use Rattle.fence.specs.declared.fence.Fence.{Fence}
 use Rattle.calls.specs.declared.call.Call.{Call}
 use Rattle.calls.specs.declared.call.Entry.{Entry}
-use Rattle.calls.specs.Requests.{Records}
+use Rattle.calls.specs.Requests.{Records, entry}
 use Rattle.calls.specs.History.{Follows, Kept}
 use Rattle.calls.proofs.Histories.{SoFar, so_far_none, so_far_more, records_more}
 use Rattle.calls.proofs.perform.perform.Given as given
@@ -44,7 +44,7 @@ loop-call-preserved g c =
     let inv = c.loop-call.invariant in
     let l : List Call = into_iter_items c.into_iter-call-iterator.result in
     let es : List Entry = vec_items c.loop-call.record in
-    let e : Entry = c.make.result in
+    let e = entry c.make-answer.new.call c.make-answer.result in
     let n = length c.args.steps.now in
     let d = length c.args.data.now in
     let p = c.new-fence.result.part in
@@ -52,16 +52,16 @@ loop-call-preserved g c =
       tt,
       tt,
       subst (λ (x : List Entry). Records l x (into_iter_items c.next.new.self)) (sym pushed.items)
-          (records_more l es c.in-Some.call (into_iter_items c.next.new.self) e (subst (λ (x : List Call). Records l es x) step.0 inv.2) c.make.ensures.recorded),
+          (records_more l es c.in-Some.call (into_iter_items c.next.new.self) e (subst (λ (x : List Call). Records l es x) step.0 inv.2) c.make-answer.ensures.recorded),
       omega (arith, inv.3, step.1, pushed.len, pushed.capacity),
       λ i.
           let h = inv.4 i in (
-            subst (λ (x : List Entry). Here g n d p x c.make.new.fence) (sym pushed.items)
-                (so_far_more g.P.Part.meaning g.P.Part.trace n d p es e c.loop-call.fence c.make.new.fence h.0
-                (subst (λ (x : ℕ). Follows g.P.Part.meaning g.P.Part.trace x d c.loop-call.fence e c.make.new.fence) c.loop-call.auto.steps
-                (subst (λ (x : ℕ). Follows g.P.Part.meaning g.P.Part.trace (length c.loop-call.steps) x c.loop-call.fence e c.make.new.fence) c.loop-call.auto.data
-                (c.make.ensures.follows h.1)))),
-            c.make.ensures.intact h.1,
+            subst (λ (x : List Entry). Here g n d p x c.make-answer.new.fence) (sym pushed.items)
+                (so_far_more g.P.Part.meaning g.P.Part.trace n d p es e c.loop-call.fence c.make-answer.new.fence h.0
+                (subst (λ (x : ℕ). Follows g.P.Part.meaning g.P.Part.trace x d c.loop-call.fence e c.make-answer.new.fence) c.loop-call.auto.steps
+                (subst (λ (x : ℕ). Follows g.P.Part.meaning g.P.Part.trace (length c.loop-call.steps) x c.loop-call.fence e c.make-answer.new.fence) c.loop-call.auto.data
+                (c.make-answer.ensures.follows h.1)))),
+            c.make-answer.ensures.intact h.1,
           ),
     )
 
