@@ -168,15 +168,14 @@ module _ {P : Type 0} (meaning : P → Meaning) (trace : P → P → List Event 
             abandoned k s cost list fresh plan.is plan.filled lt split (did_over fresh [] _ a y (so_far wait sends)) idle step over stop
 
       -- a plan that was handed out, and the run of the buffers' fronts, as long as its cost says
-      pub carried-ran : (a mid to : P) (cost : ℕ × ℕ) (n d : ℕ) (r : Result ℕ RunFault) → Sound (meaning a) → ((i : ℕ) → get_or bytes i 0 < 256)
+      pub carried-ran : (a mid to : P) (cost : ℕ × ℕ) (r : Result ℕ RunFault) → Sound (meaning a) → ((i : ℕ) → get_or bytes i 0 < 256)
           → allowed limit ≡ true → (meaning a).due ≡ 0 → intact a → Looked meaning trace intact a mid
           → Handed (plan_call (meaning a) address bytes (length steps) (length sent)) (Ok cost) steps steps' sent sent'
-          → ◌≡◌ {A = ℕ × ℕ} (n, d) cost → Ran meaning trace intact (take d sent') limit (take n steps') mid to r → Here a to (ended cost r)
-      carried-ran a mid to cost n d r S small on' q i look h e x =
+          → Ran meaning trace intact (take cost.1 sent') limit (take cost.0 steps') mid to r → Here a to (ended cost r)
+      carried-ran a mid to cost r S small on' q i look h x =
           let plan = handed_plan a cost S small (eq-eqb _ _ q) h in
-          let counts : ◌≡◌ {A = ℕ × ℕ} (n, d) (length plan.list, length plan.fresh) = e ∙ plan.counts in
           carried_run a mid cost plan q on' i look to r
           (subst (λ (l : List Step). Ran meaning trace intact plan.fresh limit l mid to r)
-          (ap (take n) plan.filled.0 ∙ take_at plan.list _ n (omega (arith, ap (λ (y : ℕ × ℕ). y.0) counts)))
-          (subst (λ (l : List ℕ). Ran meaning trace intact l limit (take n steps') mid to r)
-          (ap (take d) plan.filled.1 ∙ take_at plan.fresh _ d (omega (arith, ap (λ (y : ℕ × ℕ). y.1) counts))) x))
+          (ap (take cost.0) plan.filled.0 ∙ take_at plan.list _ cost.0 (omega (arith, ap (λ (y : ℕ × ℕ). y.0) plan.counts)))
+          (subst (λ (l : List ℕ). Ran meaning trace intact l limit (take cost.0 steps') mid to r)
+          (ap (take cost.1) plan.filled.1 ∙ take_at plan.fresh _ cost.1 (omega (arith, ap (λ (y : ℕ × ℕ). y.1) plan.counts))) x))

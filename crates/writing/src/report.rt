@@ -14,8 +14,8 @@ impl Reported for WriteFault {
             WriteFault::Outside(address) => Report::one(Layer::Caller, 1, address),
             WriteFault::StillBusy(polls) => Report::one(Layer::Caller, 3, polls),
             WriteFault::Protected(address) => Report::one(Layer::Caller, 4, address),
-            WriteFault::StepsShort(cost) => Report::two(Layer::Caller, 6, cost.cycles, cost.bytes),
-            WriteFault::DataShort(cost) => Report::two(Layer::Caller, 7, cost.cycles, cost.bytes),
+            WriteFault::StepsShort(cost) => Report::two(Layer::Caller, 6, cost.0, cost.1),
+            WriteFault::DataShort(cost) => Report::two(Layer::Caller, 7, cost.0, cost.1),
             WriteFault::Abandoned(cycles) => Report::one(Layer::Caller, 8, cycles),
             WriteFault::Refused { step: _, fault } => fault.report(),
         }

@@ -27,13 +27,9 @@ fn carry_out<P: Part>(
     requires byte { (i : ℕ) → slice_index bytes.now i < 256 }
     ensures { P.Part.intact part.old → Carried P.Part.meaning P.Part.trace P.Part.intact limit address bytes.now (buffers steps.old steps.new «data».old «data».new) part.old part.new result }
 {
-    let cost = plan(part, address, bytes, steps, data)?;
-    let Cost {
-        cycles,
-        bytes: sent,
-    } = cost;
+    let (cycles, sent) = plan(part, address, bytes, steps, data)?;
     run(part, &steps[..cycles], &data[..sent], limit)?;
-    Ok(cost)
+    Ok((cycles, sent))
 }
 
 // Writes bytes at an address at the least cost, and answers it: cycles and data bytes sent. The checks in their order: the
