@@ -21,7 +21,7 @@ call_text (Write address bytes limit) = codes "write " ++ decimal address
 -- a refusal is its row, and so is an abandoned write
 abbrev pub answer_text : Answer → List ℕ
 answer_text Done = codes "done"
-answer_text (Written cycles bytes) = codes "done " ++ (decimal cycles ++ (32 ∷ decimal bytes))
+answer_text (Written cost) = codes "done " ++ (decimal cost.0 ++ (32 ∷ decimal cost.1))
 answer_text (Refused refusal) = codes "refused " ++ shown_row (row refusal)
 answer_text (Abandoned cycles) = codes "abandoned " ++ shown_row (of_write.row (writes.Abandoned cycles))
 
@@ -30,7 +30,7 @@ abbrev pub read_text : Call → Answer → List ℕ
 read_text (Close sector) answer = []
 read_text (Open sector) answer = []
 read_text (Read address into) Done = spaced (vec_items into)
-read_text (Read address into) (Written cycles bytes) = []
+read_text (Read address into) (Written cost) = []
 read_text (Read address into) (Refused refusal) = []
 read_text (Read address into) (Abandoned cycles) = []
 read_text (Write address bytes limit) answer = []

@@ -3,6 +3,7 @@ ghost use Rattle.std.specs.Prelude.{◌≡◌};
 ghost use Rattle.script.specs.declared.fault.Fault.TheVariants.{Making, NoMemory};
 
 use crate::command::Command;
+use memory::image::Unmade;
 use port::fault::Making;
 use std::alloc::{AllocError, AllocFailed};
 use std::fmt;
@@ -83,11 +84,11 @@ impl<T: Drop> From<AllocFailed<T>> for Fault {
     }
 }
 
-impl From<Making> for Fault {
-    ghost from_gives = { λ making fault. fault ≡ Making making };
+impl From<Unmade<Making>> for Fault {
+    ghost from_gives = { λ unmade fault. fault ≡ Making unmade.fault };
 
-    fn from(making: Making) -> Fault {
-        Fault::Making(making)
+    fn from(unmade: Unmade<Making>) -> Fault {
+        Fault::Making(unmade.fault)
     }
 }
 

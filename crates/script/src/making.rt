@@ -7,7 +7,7 @@ ghost use Rattle.port.specs.Bench.{chip_of, fresh};
 
 use crate::chip::Chip;
 use crate::fault::Fault;
-use memory::model::{Model, PAGE_BYTES};
+use memory::model::Model;
 use port::bench::BenchChip;
 use port::fault::Making;
 use std::alloc::Global;
@@ -16,9 +16,9 @@ use std::alloc::Global;
 pub(crate) fn blank_chip(heap: Global, capacity: u8, status: u8, busy: usize) -> Result<Chip, Fault>
     ensures { IfOk result (λ c. (c.capacity ≡ capacity) × (c.status ≡ status) × (c.busy ≡ busy) × (c.image.items ≡ replicate (size (shape_for capacity)) 255)) }
 {
-    let model = Model::find(capacity).ok_or(Making::Geometry)?;
-    let blank = vec![in heap; 0xFF; model.sectors * model.pages * PAGE_BYTES]?;
-    let made = BenchChip::new(capacity, blank, status, busy).map_err(|(making, _)| making)?;
+    let model = Model::find(capacity).ok_or(Fault::Making(Making::Geometry))?;
+    let blank = vec![in heap; 0xFF; model.geometry.size()]?;
+    let made = BenchChip::new(capacity, blank, status, busy)?;
     Ok(Chip {
         capacity,
         status,

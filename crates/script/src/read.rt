@@ -34,7 +34,6 @@ pub fn read_script(heap: Global, text: &[u8]) -> Result<Script, ScriptFault> {
     if text.len() > MOST_TEXT {
         return Err(Fault::Long.on(line_at(text, MOST_TEXT)));
     }
-    let text = from_utf8(text)
-        .map_err(|error| Fault::Text.on(line_at(text, error.valid_up_to())))?;
+    let text = from_utf8(text).map_err(|error| Fault::Text.on(line_at(text, error.valid_up_to())))?;
     read_lines(heap, text)
 }

@@ -6,13 +6,11 @@ use crate::making::blank_chip;
 use crate::numbers::{byte, decimal};
 use crate::script::{Room, Script};
 use calls::call::Call;
+use part::limit::MOST_POLLS;
 use std::alloc::Global;
 
 // The most steps that there can be room for.
 const MOST_STEPS: usize = 1048576;
-
-// The poll limit where a script does not say.
-const LIMIT: usize = 4096;
 
 // The bytes of all reads and writes together.
 const MOST_ALL: usize = 268435456;
@@ -22,6 +20,7 @@ pub(crate) struct Reading {
     heap: Global,
     // what is read, from the chip on
     script: Option<Script>,
+    // the poll limit of the writes that follow
     limit: usize,
     // how many bytes the rest of the calls may have
     left: usize,
@@ -32,7 +31,7 @@ impl Reading {
         Reading {
             heap,
             script: None,
-            limit: LIMIT,
+            limit: MOST_POLLS,
             left: MOST_ALL,
         }
     }

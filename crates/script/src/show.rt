@@ -5,6 +5,7 @@ ghost use Rattle.script.specs.Showing.{answer_text, call_text, line_text, read_t
 
 use calls::call::{Answer, Call, Entry};
 use hex_text::spaced::Spaced;
+use memory::report::Reported;
 use std::fmt;
 use writing::fault::WriteFault;
 
@@ -39,7 +40,7 @@ impl fmt::Display for Answered {
     fn fmt<W: fmt::Write>(&self, f: &mut fmt::Formatter<W>) -> fmt::Result {
         match self.0 {
             Answer::Done => write!(f, "done"),
-            Answer::Written(cycles, bytes) => write!(f, "done {cycles} {bytes}"),
+            Answer::Written((cycles, bytes)) => write!(f, "done {cycles} {bytes}"),
             Answer::Refused(refusal) => {
                 let report = refusal.report();
                 write!(f, "refused {report}")

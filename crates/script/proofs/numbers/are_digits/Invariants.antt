@@ -1,7 +1,0 @@
-use Rattle.std.proofs.Common.{◌≡◌, drop}
-use Rattle.std.specs.Str.{all_ascii_digits}
-use Rattle.script.proofs.numbers.are_digits.Given as goal
-
--- what is left decides
-abbrev pub invariant-loop-b : goal.invariant-loop-b
-invariant-loop-b l = all_ascii_digits l.word ≡ all_ascii_digits (drop l.b-index l.word)
