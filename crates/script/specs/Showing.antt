@@ -1,7 +1,6 @@
 -- The line that is shown for a call and what came of it.
 use Rattle.std.specs.Prelude.{ℕ, List, [], ◌∷◌, ◌++◌, vec_items, codes, decimal}
 use Rattle.hex_text.specs.HexText.{spaced}
-use Rattle.memory.specs.Row.{Row}
 use Rattle.memory.specs.Reports.{shown_row}
 use Rattle.writing.specs.declared.fault.WriteFault.TheVariants as writes
 use Rattle.writing.specs.WriteRows as of_write

@@ -60,9 +60,6 @@ impl Chip {
             busy,
             image,
         } = self;
-        let Ok(chip) = BenchChip::new(capacity, image, status, busy) else {
-            unreachable()
-        };
-        chip
+        BenchChip::new(capacity, image, status, busy).unwrap()
     }
 }

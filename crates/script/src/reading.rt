@@ -9,6 +9,12 @@ use calls::call::Call;
 use part::limit::MOST_POLLS;
 use std::alloc::Global;
 
+// What there is room for where a script does not say.
+const ROOM: Room = Room {
+    steps: 512,
+    bytes: 65536,
+};
+
 // The most steps that there can be room for.
 const MOST_STEPS: usize = 1048576;
 
@@ -72,7 +78,7 @@ impl Reading {
         let chip = blank_chip(self.heap, byte(capacity)?, byte(status)?, decimal(busy)?)?;
         self.script = Some(Script {
             chip,
-            room: Room::default(),
+            room: ROOM,
             calls: Vec::new(self.heap),
         });
         Ok(())

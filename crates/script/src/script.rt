@@ -9,16 +9,6 @@ pub struct Room {
     pub bytes: usize,
 }
 
-// What there is room for where a script does not say.
-impl Default for Room {
-    fn default() -> Room {
-        Room {
-            steps: 512,
-            bytes: 65536,
-        }
-    }
-}
-
 #[derive(Drop)]
 pub struct Script {
     pub chip: Chip,

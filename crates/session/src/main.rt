@@ -17,7 +17,7 @@ fn main(rt: HostRuntime) -> anyhow::Result<ExitCode> {
         .read_to_end(&mut text)?;
     match read_script(heap, &text) {
         Ok(script) => {
-            rt.stdout().write_all(&play(heap, script)?)?;
+            rt.stdout().write_all(play(heap, script)?.as_bytes())?;
             Ok(ExitCode::SUCCESS)
         }
         Err(fault) => {

@@ -3,27 +3,18 @@ use anyhow::anyhow;
 use attached::perform::{Unplayed, perform_attached};
 use calls::perform::Performed;
 use least::step::Step;
-use memory::kind::Kind;
+use part::limit::MOST_POLLS;
 use script::script::Script;
-use script::show::show;
+use script::show::Shown;
 use std::alloc::Global;
 
-// The polls that attaching may take.
-const LIMIT: usize = 4096;
-
-const UNUSED: Step = Step {
-    kind: Kind::BulkErase,
-    address: 0,
-    length: 0,
-    place: 0,
-};
-
 // Makes the calls of a script to a fence over a new chip, and answers a line for each.
-pub(crate) fn play(heap: Global, script: Script) -> anyhow::Result<Vec<u8>> {
+pub(crate) fn play(heap: Global, script: Script) -> anyhow::Result<String> {
     let chip = script.chip.make();
-    let mut steps = vec![in heap; UNUSED; script.steps]?;
-    let mut data = vec![in heap; 0; script.room]?;
-    let record = match perform_attached(heap, chip, LIMIT, script.calls, &mut steps, &mut data) {
+    let mut steps = vec![in heap; Step::UNUSED; script.room.steps]?;
+    let mut data = vec![in heap; 0; script.room.bytes]?;
+    let played = perform_attached(heap, chip, MOST_POLLS, script.calls, &mut steps, &mut data);
+    let record = match played {
         Ok(Performed { record, fence: _ }) => record,
         Err(
             Unplayed::NoMemory {
@@ -40,9 +31,10 @@ pub(crate) fn play(heap: Global, script: Script) -> anyhow::Result<Vec<u8>> {
             },
         ) => unreachable(),
     };
-    let mut out = Vec::new(heap);
+    let mut out = String::new(heap);
     for entry in record.iter() {
-        show(heap, entry, &mut out)?;
+        let line = Shown(entry);
+        write!(out, "{line}")?;
     }
     Ok(out)
 }

@@ -1,7 +1,7 @@
-use Rattle.std.proofs.Common.{◌≡◌, ℕ, ◌+◌, ◌-◌, ◌*◌, ◌/◌, ◌%◌, ◌≤◌, List, [], ◌∷◌, length, Ok, Err, Some, None, MatchResult, is_ok, Option, Result, Bool, true, false, if◌then◌else◌, ◌==◌, slice_index_or, refl, sym, ap, ◌∙◌, arith, rules}
+use Rattle.std.proofs.Common.{◌≡◌, ℕ, ◌/◌, ◌%◌, ◌≤◌, List, [], ◌∷◌, length, Ok, Err, Some, None, MatchResult, is_ok, Option, Result, Bool, true, false, if◌then◌else◌, ◌==◌, slice_index_or, refl, sym, ◌∙◌, arith, rules}
 use Rattle.std.specs.Result.{IsErrAnd}
 use Rattle.std.proofs.lemmas.Bool.Decides.{nat_tests}
-use Rattle.hex.specs.Hex.{hex_digit_value, value_at, digit_or_error, pair_value, decode_pairs, decode_sized}
+use Rattle.hex.specs.Hex.{hex_digit_value, decode_pairs, decode_sized}
 use Rattle.hex.specs.declared.error.FromHexError.{FromHexError}
 use Rattle.hex.specs.declared.error.FromHexError.TheVariants.{OddLength, InvalidStringLength}
 use Rattle.script.specs.declared.fault.Fault.{Fault}
