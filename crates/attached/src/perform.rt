@@ -1,11 +1,11 @@
 // A driver attached to a port, and calls made to a new fence over it.
 ghost use Rattle.std.specs.Prelude.{◌≡◌, length, Ok, Err};
 ghost use Rattle.attached.specs.Attached.{Idle, Played, Refused};
-ghost use Rattle.attached.specs.declared.perform.Unplayed.TheVariants.{Unattached, NoMemory};
+ghost use Rattle.attached.specs.declared.perform.Unplayed.TheVariants as unplayed;
 
 use calls::call::Call;
 use calls::perform::{Performed, Unperformed, perform};
-use driver::attach::attach;
+use driver::attach::{Unattached, attach};
 use driver::driver::Driver;
 use driver::fault::AttachFault;
 use least::step::Step;
@@ -13,7 +13,7 @@ use port::port::Port;
 use std::alloc::Global;
 
 // Why no call was made. What was handed in comes back.
-pub enum Unplayed<P> {
+pub enum Unplayed<P: Port> {
     Unattached {
         fault: AttachFault,
         port: P,
@@ -25,7 +25,20 @@ pub enum Unplayed<P> {
     },
 }
 
+impl<P: Port> From<Unperformed<Driver<P>>> for Unplayed<P> {
+    ghost from_gives = { λ old new. new ≡ unplayed.NoMemory old.part old.calls };
+
+    fn from(unperformed: Unperformed<Driver<P>>) -> Unplayed<P> {
+        let Unperformed { part, calls } = unperformed;
+        Unplayed::NoMemory {
+            driver: part,
+            calls,
+        }
+    }
+}
+
 // Attaches a driver to the port, by at most `limit` polls, puts a new fence over it, and makes the calls in their order.
+// (The step list and the data buffer are lent apart, as `write` takes them.)
 pub fn perform_attached<P: Port>(
     heap: Global,
     port: P,
@@ -35,22 +48,17 @@ pub fn perform_attached<P: Port>(
     data: &mut [u8],
 ) -> Result<Performed<Driver<P>>, Unplayed<P>>
     ensures { elim result [
-      | Ok d ↦ Played P.Port.chip P.Port.trace limit (length steps.old) (length «data».old) port calls.items d.record.items d.fence
+      | Ok d ↦ Played P.Port limit (length steps.old) (length «data».old) port calls.items d.record.items d.fence
       | Err u ↦ elim u [
-        | Unattached fault back given ↦ Refused P.Port.chip P.Port.trace limit port fault back × (given ≡ calls)
-        | NoMemory driver given ↦ Idle P.Port.chip P.Port.trace limit port driver × (given ≡ calls)
+        | unplayed.Unattached fault back given ↦ Refused P.Port limit port fault back × (given ≡ calls)
+        | unplayed.NoMemory driver given ↦ Idle P.Port limit port driver × (given ≡ calls)
       ] × (steps.new ≡ steps.old) × («data».new ≡ «data».old)
     ] }
 {
+    // no map_err: its closure would take the calls, which are made next
     let driver = match attach(port, limit) {
         Ok(driver) => driver,
-        Err((fault, port)) => return Err(Unplayed::Unattached { fault, port, calls }),
+        Err(Unattached { fault, port }) => return Err(Unplayed::Unattached { fault, port, calls }),
     };
-    match perform(heap, driver, calls, steps, data) {
-        Ok(performed) => Ok(performed),
-        Err(Unperformed { part, calls }) => Err(Unplayed::NoMemory {
-            driver: part,
-            calls,
-        }),
-    }
+    Ok(perform(heap, driver, calls, steps, data)?)
 }

@@ -1,19 +1,17 @@
-use Rattle.std.proofs.Common.{ap, ◌∙◌}
+use Rattle.std.proofs.Common.{ap}
 use Rattle.port.specs.Chip.{Chip}
-use Rattle.driver.specs.Seeing.{seen-image}
 use Rattle.attached.proofs.perform.perform_attached.Goals as goal
 
-pub returns-in-Ok-perform : goal.returns-in-Ok-perform
-returns-in-Ok-perform g c =
-    let d = c.in-Ok.driver in
+pub returns : goal.returns
+returns g c =
     let e = c.in-Ok.ensures in
-    let p = c.in-Ok-perform.ensures in
+    let p = c.in_ok-perform.ensures in
     record {
       attaches = e.0;
-      driver = d;
-      frames = e.4;
-      rests = e.3;
-      image = seen-image d.outline (g.P.Port.chip d.port) (g.met.P.Port.sound d.port).0 e.1 ∙ ap (λ (x : Chip). x.image) e.3;
+      driver = c.in-Ok.driver;
+      frames = e.3;
+      rests = e.2;
+      image = ap (λ (x : Chip). x.image) e.2;
       records = p.0;
-      kept = p.1 e.1;
+      kept = p.1 tt;
     }
