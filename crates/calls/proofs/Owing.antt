@@ -1,20 +1,16 @@
 -- What a call owes, and small facts of references.
-use Rattle.std.proofs.Common.{◌≡◌, ℕ, List, Some, None, Option, ap, ◌∙◌, subst}
+use Rattle.std.proofs.Common.{◌≡◌, ℕ, List, Some, None, Option, sym, ap, ◌∙◌, subst}
 use Rattle.memory.specs.Page.{put}
 use Rattle.part.specs.Meaning.{Meaning, Event}
 use Rattle.fence.specs.declared.fence.Fence.{Fence}
 use Rattle.calls.specs.declared.call.Answer.{Answer}
-use Rattle.calls.specs.declared.call.Entry.{Entry}
-use Rattle.calls.specs.Requests.{Request, asks, buffer, outcome}
+use Rattle.calls.specs.declared.call.Call.{Call}
+use Rattle.calls.specs.Requests.{Request, asks, buffer, entry, outcome}
 use Rattle.calls.specs.Reference.{Reference, Holds, fed, rewritten}
 use Rattle.calls.specs.Law.{Law}
 use Rattle.calls.specs.History.{Agrees, Follows}
 
--- what holds of one image holds of the reference's, where that is the one
-pub holds_by : (o : Option (List ℕ)) (x : List ℕ) (Q : List ℕ → Type 0) → Q x → Holds o (λ i. x ≡ i) → Holds o Q
-holds_by None x Q q h = tt
-holds_by (Some i) x Q q h = subst Q h q
-
+-- what the reference holds of an image, of the next image
 pub holds_moved : (o : Option (List ℕ)) (x y : List ℕ) → y ≡ x → Holds o (λ i. x ≡ i) → Holds o (λ i. y ≡ i)
 holds_moved None x y e h = tt
 holds_moved (Some i) x y e h = e ∙ h
@@ -29,10 +25,7 @@ module _ {P : Type 0} (meaning : P → Meaning) (trace : P → P → List Event 
     pub law : (ref : Reference) → Agrees meaning trace steps room ref f → Law meaning trace steps room ref f request held answer g
     pub agrees : (ref : Reference) → Agrees meaning trace steps room ref f → Agrees meaning trace steps room (fed ref request (outcome answer)) g
 
-  pub owed_follows : (f g : Fence P) (e : Entry) → Owed f (asks e.call) (buffer e.call) e.answer g → Follows meaning trace steps room f e g
-  owed_follows f g e o = record { law = o.law; agrees = o.agrees }
-
-  -- the same under other names
-  pub owed_by : (f g : Fence P) (q q' : Request) (held held' : List ℕ) (a a' : Answer) → q ≡ q' → held ≡ held' → a ≡ a' → Owed f q held a g → Owed f q' held' a' g
-  owed_by f g q q' held held' a a' e h k o =
-      subst (λ (x : Request). Owed f x held' a' g) e (subst (λ (x : List ℕ). Owed f q x a' g) h (subst (λ (x : Answer). Owed f q held x g) k o))
+  pub owed_follows : (f g : Fence P) (call : Call) (answer answer' : Answer) → answer' ≡ answer
+      → Owed f (asks call) (buffer call) answer g → Follows meaning trace steps room f (entry call answer') g
+  owed_follows f g call answer answer' e o =
+      subst (λ (x : Answer). Follows meaning trace steps room f (entry call x) g) (sym e) (record { law = o.law; agrees = o.agrees })

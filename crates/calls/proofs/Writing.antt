@@ -28,7 +28,7 @@ use Rattle.calls.specs.Requests.{writing}
 use Rattle.calls.specs.Causes.{Passes, Unaltered, WriteCause, wanted}
 use Rattle.calls.specs.Law.{ProtectedLaw, meant, Traced}
 use Rattle.calls.proofs.Owing.{Owed, holds_moved, holds_put}
-use Rattle.calls.proofs.Rows.{protected-row, steps-row, data_row}
+use Rattle.calls.proofs.Rows.{same_row}
 
 module _ {P : Type 0} (meaning : P → Meaning) (trace : P → P → List Event → Type 0) (intact : P → Type 0)
     (stays : (s : P) → trace s s [])
@@ -93,21 +93,21 @@ module _ {P : Type 0} (meaning : P → Meaning) (trace : P → P → List Event 
     says_before n f idle x p s e = subst (λ (y : Meaning). SaysOf y x) p.leaves (subst (λ (z : writes.Answer). SaysOf (m idle) z) e s)
 
     module _ (f g : Fence P) (passes : Passes (m f) address (length bytes) limit) where
+      -- a refusal told by the row of another is that one
+      owed_as : (fault known : WriteFault) → (row known).layer ≡ 1 → row fault ≡ row known → Owes f (write_answer (Err known)) g → Owes f (write_answer (Err fault)) g
+      owed_as fault known l e o = subst (λ (w : WriteFault). Owes f (write_answer (Err w)) g) (sym (same_row fault known l e)) o
+
       -- planning refuses: by what it says, with the fault that has its row
       unplanned_owed : (fault : WriteFault) (x : writes.Answer) → SaysOf (m f) x → x ≡ writes.refused (row fault) → Unaltered m t f g → Owes f (write_answer (Err fault)) g
       unfolding SaysOf
       unplanned_owed fault _ (theorems.outside past) e u = absurd (omega (arith, past, passes.inside))
       unplanned_owed fault _ (theorems.barred a inside lowest nothing) e u =
-          let r : row fault ≡ writes.protected_at a = cc in
-          subst (λ (w : WriteFault). Owes f (write_answer (Err w)) g) (sym (protected-row fault a r))
-          (refused_owed f g (Protected a) u (λ _. (λ _. nothing, λ _. refl)) (passes, lowest))
+          owed_as fault (Protected a) refl (cc) (refused_owed f g (Protected a) u (λ _. (λ _. nothing, λ _. refl)) (passes, lowest))
       unplanned_owed fault _ (theorems.few-steps l cost inside by short) e u =
-          let r : row fault ≡ writes.steps_short cost = cc in
-          subst (λ (w : WriteFault). Owes f (write_answer (Err w)) g) (sym (steps-row fault cost r))
+          owed_as fault (StepsShort cost) refl (cc)
           (refused_owed f g (StepsShort cost) u (λ _. (λ z. absurd (omega arith), λ nothing. absurd (nothing l by.goes))) (passes, (l, by), short))
       unplanned_owed fault _ (theorems.few_data l cost inside by enough short) e u =
-          let r : row fault ≡ writes.data_short cost = cc in
-          subst (λ (w : WriteFault). Owes f (write_answer (Err w)) g) (sym (data_row fault cost r))
+          owed_as fault (DataShort cost) refl (cc)
           (refused_owed f g (DataShort cost) u (λ _. (λ z. absurd (omega arith), λ nothing. absurd (nothing l by.goes))) (passes, (l, by), enough, short))
       unplanned_owed fault _ (theorems.written cost list fresh inside least counts few short) e u =
           let z : ◌≡◌ {A = ℕ} 0 1 = cc in absurd (omega arith)

@@ -23,6 +23,7 @@ pub struct Unperformed<P> {
 }
 
 // Puts a new fence over the part, and makes the calls in their order. Want of memory is found out before the first of them.
+// (The step list and the data buffer are lent apart, as `write` takes them.)
 pub fn perform<P: Part>(
     heap: Global,
     part: P,

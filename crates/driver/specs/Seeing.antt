@@ -30,6 +30,10 @@ due-idle false n = refl
 pub seen_outline : (o : Outline) (c : Chip) → Outlines o (seen o c)
 seen_outline o c = record { shape = refl; guarded = refl; idle = due-idle o.busy c.busy }
 
+-- the image seen is the chip's
+pub seen-image : (o : Outline) (c : Chip) → (seen o c).image ≡ c.image
+seen-image o c = refl
+
 -- what is remembered is true of the chip's length too
 pub chip_long : (o : Outline) (c : Chip) → of_chip.Sound c → Intact o c → length c.image ≡ size (outlined o)
 chip_long o c s i = s.imaged.whole ∙ ap size i.shape

@@ -31,7 +31,8 @@ pub(crate) fn is_busy<P: Port>(port: &mut P) -> bool
     status(port) & WIP != 0
 }
 
-// Polls until the chip is idle, at most so many times. True if it is.
+// Polls until the chip is idle, at most so many times. True if it is. With `any` in place of the `for` nothing is known of
+// the port as the closure leaves it, so the proof does not close.
 pub(crate) fn wait<P: Port>(port: &mut P, limit: usize) -> bool
     ensures idle { result ≡ nat_lt (P.Port.chip port.old).busy limit }
     ensures chip { P.Port.chip port.new ≡ lowered (min limit ((P.Port.chip port.old).busy + 1)) (P.Port.chip port.old) }

@@ -10,7 +10,8 @@ use port::port::Port;
 // What a read frame sends: a code and three bytes of address.
 const READ_HEAD: usize = 4;
 
-// Fills the buffer from an address on, by frames as long as the port carries.
+// Fills the buffer from an address on, by frames as long as the port carries. With `chunks_mut` in place of the ranges
+// nothing is known of the bytes once the chunks are given back, so the proof does not close.
 pub(crate) fn read<P: Port>(port: &mut P, address: usize, into: &mut [u8])
     requires { address + length into.old ≤ 16777216 }
     ensures bytes { (P.Port.chip port.old).busy ≡ 0 → address + length into.old ≤ length (P.Port.chip port.old).image → into.new ≡ block address (length into.old) (P.Port.chip port.old).image }

@@ -6,6 +6,6 @@ pub use memory::geometry::MOST_SECTORS;
 #[derive(Drop)]
 pub struct Fence<P> {
     pub(crate) part: P,
-    // one mark for each sector that a part may have
+    // one mark for each sector that a part may have: a table of fixed length, since there is no heap
     pub(crate) closed: [bool; MOST_SECTORS],
 }

@@ -21,7 +21,8 @@ impl<P: Part> Fence<P> {
         !(0..self.part.sectors()).any(|sector| self.is_closed(sector))
     }
 
-    // If a closed sector stands in the way of the cycle.
+    // If a closed sector stands in the way of the cycle. An outline's `is_open` asks two other questions of the same two
+    // cases, and a function of both questions would be longer than either.
     fn bars(&self, kind: Kind, address: usize) -> bool
         ensures { result ≡ bars (P.Part.meaning self.now.part).shape self.now.closed kind address }
     {

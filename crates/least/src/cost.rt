@@ -7,6 +7,10 @@ ghost use Rattle.least.specs.Fewest.{fewest, capped};
 // sectors up to the plan and its callers.
 pub type Cost = (usize, usize);
 
+pub const NOTHING: Cost = (0, 0);
+
+pub const ERASE: Cost = (1, 0);
+
 // Whether `a` costs no more than `b`.
 pub fn at_most(a: Cost, b: Cost) -> bool
     ensures { result ≡ fewest.leq a b }

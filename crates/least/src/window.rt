@@ -2,47 +2,65 @@
 ghost use Rattle.std.specs.Prelude.{◌≡◌, min, length};
 ghost use Rattle.least.specs.Window.{window, Windowed, FirstChange};
 
+use std::marker::Model;
+
+// A run of places in a page, which may come round at the page's end. A clause sees the pair (start, length).
+#[derive(Clone, Copy, PartialEq, Eq, Debug)]
+pub struct Run {
+    pub start: usize,
+    pub length: usize,
+}
+
+impl Model for Run {
+    ghost use Rattle.std.specs.Prelude.{ℕ};
+
+    ghost Value = { ℕ × ℕ };
+
+    ghost view = { λ r. (r.start, r.length) };
+
+    ghost inverse = { λ v. record { start = v.0; length = v.1 } };
+}
+
 // The lowest place where the two differ.
 pub fn first_change(old: &[u8], new: &[u8]) -> Option<usize>
     ensures { FirstChange (min (length old.now) (length new.now)) old.now new.now result }
 {
-    let size = old.len().min(new.len());
-    for place in 0..size {
-        if old[place] != new[place] {
-            return Some(place);
-        }
-    }
-    None
+    old.iter().zip(new).position(|(a, b)| a != b)
 }
 
-// Start and length of the window, which may come round at the page's end; of equally long ones the lowest, and none where nothing changes.
+// The window, which may come round at the page's end; of equally long ones the lowest, and none where nothing changes.
 // Of two slices that are not equally long the common part is looked at.
-pub fn window(old: &[u8], new: &[u8]) -> Option<(usize, usize)>
+pub fn window(old: &[u8], new: &[u8]) -> Option<Run>
     ensures value { result ≡ window (min (length old.now) (length new.now)) old.now new.now }
     ensures words { Windowed (min (length old.now) (length new.now)) old.now new.now result }
 {
-    let Some(first) = first_change(old, new) else {
-        return None;
-    };
+    let first = first_change(old, new)?;
     let size = old.len().min(new.len());
     let mut last = first;
     // of the runs that start behind a gap and come round, the shortest so far
-    let mut start = first;
-    let mut length = size;
+    let mut round = Run {
+        start: first,
+        length: size,
+    };
     for place in first + 1..size {
         if old[place] != new[place] {
-            let round = size - (place - last) + 1;
-            if round < length {
-                start = place;
-                length = round;
+            let length = size - (place - last) + 1;
+            if length < round.length {
+                round = Run {
+                    start: place,
+                    length,
+                };
             }
             last = place;
         }
     }
-    let straight = last - first + 1;
-    if straight <= length {
-        Some((first, straight))
+    let straight = Run {
+        start: first,
+        length: last - first + 1,
+    };
+    if straight.length <= round.length {
+        Some(straight)
     } else {
-        Some((start, length))
+        Some(round)
     }
 }

@@ -62,3 +62,13 @@ pair-here a b v s e = join_spelled a b v (digit_of a) (digit_of b) refl refl e
 pub pair_alone : (a v : ℕ) → pair_of (a ∷ []) ≡ Some v → ⊥
 unfolding pair_of
 pair_alone a v e = lone (digit_of a) v e
+
+no_low : (x : Option ℕ) → joined x None ≡ None
+no_low None = refl
+no_low (Some h) = refl
+
+pub pair_short : (s : List ℕ) → length s < 2 → pair_of s ≡ None
+unfolding pair_of
+pair_short [] h = refl
+pair_short (a ∷ []) h = no_low (digit_of a)
+pair_short (a ∷ b ∷ s) h = absurd (omega arith)

@@ -1,14 +1,15 @@
 -- What is kept of a line is the line of what it asks for.
-use Rattle.std.proofs.Common.{◌≡◌, ℕ, ◌+◌, ◌*◌, ◌/◌, ◌%◌, ◌<◌, ◌≤◌, ◌⊎◌, List, [], ◌∷◌, ◌++◌, length, Some, None, Option, sym, refl, ap, ◌∙◌, subst, inl, inr, append_assoc, arith, length-append}
+use Rattle.std.proofs.Common.{◌≡◌, ℕ, ◌+◌, ◌*◌, ◌/◌, ◌%◌, ◌<◌, ◌≤◌, ◌⊎◌, List, [], ◌∷◌, ◌++◌, length, get_or, Some, None, Option, sym, refl, ap, ◌∙◌, subst, inl, inr, append_assoc, arith, length-append}
 use Rattle.std.proofs.lemmas.List.{append-nil}
 use Rattle.std.specs.List.{AllByRecursion as All}
+use Rattle.std.proofs.ByRecursion.{All-from_get_or}
 use Rattle.std.proofs.lemmas.Bool.{cases_eq}
 use Rattle.listing.specs.declared.item.Placed.{Placed}
 use Rattle.listing.specs.Hex.{glyph, Pair, pair, Pairs, one, more}
 use Rattle.listing.specs.Parts.{Part, Spot, part_of, count_of, Exchange, exchange}
 use Rattle.listing.specs.Grammar.{LineText, noted, framed, counted, Ending, ended, failed, Reads, over, broken, line}
-use Rattle.listing.specs.Writing.{pair_text, spaced_text, pairs_text, back_text, line_text, listing, Noteless, laid, text_of, frame_text, held, kept_count, kept_from, kept_of, ReadsAlone}
-use Rattle.listing.proofs.Laying.{back_some, laid_join}
+use Rattle.listing.specs.Writing.{pair_text, spaced_text, pairs_text, back_text, line_text, listing, Noteless, text_of, frame_text, held, kept_count, kept_from, kept_of, ReadsAlone}
+use Rattle.listing.proofs.Laying.{back_some}
 
 pub kept_other : (p : Part) (o : Option _) (is : List Spot) → o ≡ None → held o ≡ frame_text p → kept_from (frame_text p) is ≡ []
 kept_other p o is e f = ap (λ x. kept_from x is) (sym f ∙ ap held e)
@@ -149,24 +150,11 @@ frame-reads x h =
     let r = all_read 1 (x ∷ []) (h, tt) in
     let P : List ℕ → Type 0 = λ t. Reads 1 t r.0 (x ∷ []) ended in (r.0, subst P (listing-one x) r.1)
 
--- the parts of a kept line laid one after another
-pub two_laid : (at e : ℕ) (a b l l₁ l₂ : List ℕ) → l₁ ≡ laid at a l → e ≡ at + length a → l₂ ≡ laid e b l₁ → at + length (a ++ b) ≤ length l → l₂ ≡ laid at (a ++ b) l
-two_laid at e a b l l₁ l₂ p q r h =
-    let k = length-append a b in r ∙ ap (laid e b) p ∙ laid_join at e a b l q (omega arith)
+pub bytes-read : (c n : ℕ) (bs : List ℕ) → c < 256 → n < 256 → ((i : ℕ) → get_or bs i 0 < 256) → ReadsAlone (exchange (c ∷ bs) n)
+bytes-read c n bs h k l = frame-reads (exchange (c ∷ bs) n) (sendable c n bs h (All-from_get_or (λ b. b < 256) bs 0 (λ i _. l i)) k)
 
 pub frame-kept : (p : Part) (o : Option _) (s : _) (is : List Spot) → o ≡ Some s → held o ≡ frame_text p → kept_from (frame_text p) is ≡ s.now ++ kept_count is
 frame-kept p o s is e f = ap (λ x. kept_from x is) (sym f ∙ ap held e)
 
 pub count_kept : (o : Option Placed) (p : Placed) (w : List ℕ) → o ≡ Some p → w ≡ text_of (part_of p.item) → kept_count (count_of o) ≡ (32 ∷ 62 ∷ 32 ∷ []) ++ (w ++ 10 ∷ [])
 count_kept o p w e f = ap (λ x. kept_count (count_of x)) e ∙ ap (λ y. 32 ∷ 62 ∷ 32 ∷ y ++ 10 ∷ []) (sym f)
-
-pub count-size : (w : List ℕ) → length ((32 ∷ 62 ∷ 32 ∷ []) ++ (w ++ 10 ∷ [])) ≡ length w + 4
-count-size w = let k = length-append w (10 ∷ []) in omega arith
-
-pub count-laid : (at d e : ℕ) (w l l₁ l₂ l₃ : List ℕ) → l₁ ≡ laid at (32 ∷ 62 ∷ 32 ∷ []) l → d ≡ at + 3 → l₂ ≡ laid d w l₁ → e ≡ d + length w → l₃ ≡ laid e (10 ∷ []) l₂ →
-    at + (length w + 4) ≤ length l → l₃ ≡ laid at ((32 ∷ 62 ∷ 32 ∷ []) ++ (w ++ 10 ∷ [])) l
-count-laid at d e w l l₁ l₂ l₃ p q r s u h =
-    let M : List ℕ = 32 ∷ 62 ∷ 32 ∷ [] in
-    let k : length (M ++ w) ≡ length w + 3 = omega arith in
-    let a : l₂ ≡ laid at (M ++ w) l = r ∙ ap (laid d w) p ∙ laid_join at d M w l q (omega arith) in
-    u ∙ ap (laid e (10 ∷ [])) a ∙ laid_join at e (M ++ w) (10 ∷ []) l (omega arith) (omega arith)

@@ -1,12 +1,11 @@
 -- Parts of a text laid one after another over the start of a buffer.
-use Rattle.std.proofs.Common.{◌≡◌, ℕ, ◌+◌, ◌*◌, ◌<◌, ◌≤◌, cond, List, [], ◌∷◌, ◌++◌, length, get_or, take, drop, Ok, Err, sym, refl, ap, ◌∙◌, append_assoc, add-zero, zero-add, arith, length-append}
+use Rattle.std.proofs.Common.{◌≡◌, ℕ, ◌+◌, ◌*◌, ◌<◌, ◌≤◌, cond, List, [], ◌∷◌, ◌++◌, length, get_or, take, drop, sym, refl, ap, ◌∙◌, append_assoc, add-zero, zero-add, arith, length-append}
 use borrow.Rule.Slice.PartMut.{put_mid}
 use Rattle.std.proofs.lemmas.List.{take_at, take-append-drop, drop-drop, take_more, length-take-le}
 use Rattle.std.proofs.lemmas.Slice.{drop-append-drop}
-use Rattle.std.proofs.lemmas.Bool.{eq-eqb, ne_eqb, le-leb, lt-leb}
-use Rattle.listing.specs.declared.fault.ListingFault.TheVariants.{TextShort}
+use Rattle.std.proofs.lemmas.Bool.{eq-eqb, ne_eqb, le-leb}
 use Rattle.listing.specs.Parts.{exchange}
-use Rattle.listing.specs.Values.{fitted, over}
+use Rattle.listing.specs.Values.{over}
 use Rattle.listing.specs.Writing.{laid, pair_text, spaced_text, pairs_text, back_text, line_text}
 
 -- the buffer l with w over its start
@@ -81,64 +80,13 @@ back_none n z = ap (λ b. cond b [] (32 ∷ 62 ∷ 32 ∷ pair_text n)) (eq-eqb 
 pub back_some : (n : ℕ) → (n ≡ 0 → ⊥) → back_text n ≡ (32 ∷ 62 ∷ 32 ∷ []) ++ pair_text n
 back_some n z = ap (λ b. cond b [] (32 ∷ 62 ∷ 32 ∷ pair_text n)) (ne_eqb n 0 z)
 
-pub line-size : (c : ℕ) (bs : List ℕ) (n : ℕ) → length (line_text (exchange (c ∷ bs) n)) ≡ 3 * (1 + length bs) + length (back_text n)
+pub line-size : (c : ℕ) (bs : List ℕ) (n : ℕ) → length (line_text (exchange (c ∷ bs) n)) ≡ 3 + length (spaced_text bs) + length (back_text n)
 line-size c bs n =
     let e = ap length (line-parts c bs n) in
     let a = length-append ((pair_text c ++ spaced_text bs) ++ back_text n) (10 ∷ []) in
     let b = length-append (pair_text c ++ spaced_text bs) (back_text n) in
-    let d = length-append (pair_text c) (spaced_text bs) in
-    let h = spaced-size bs in omega arith
-
--- one more byte after a space
-pub spaced_turn : (at place n i : ℕ) (bs l l₀ l₁ l₂ : List ℕ) → i < length bs → at + 3 * length bs ≤ length l →
-    l₀ ≡ laid at (spaced_text (take i bs)) l → place ≡ at + 3 * i →
-    l₁ ≡ laid place (32 ∷ []) l₀ → n ≡ place + 1 → l₂ ≡ laid n (pair_text (get_or bs i 0)) l₁ →
-    l₂ ≡ laid at (spaced_text (take (i + 1) bs)) l
-spaced_turn at place n i bs l l₀ l₁ l₂ h f e₀ p e₁ q e₂ =
-    let S = spaced_text (take i bs) in
-    let P = pair_text (get_or bs i 0) in
-    let s = spaced-size (take i bs) in
-    let t = length-take-le i bs (omega arith) in
-    let k = length-append S (32 ∷ []) in
-    let a : l₁ ≡ laid at (S ++ 32 ∷ []) l = e₁ ∙ ap (laid place (32 ∷ [])) e₀ ∙ laid_join at place S (32 ∷ []) l (omega arith) (omega arith) in
-    e₂ ∙ ap (laid n P) a ∙ laid_join at n (S ++ 32 ∷ []) P l (omega arith) (omega arith)
-    ∙ ap (λ y. laid at y l) (append_assoc S (32 ∷ []) P ∙ sym (spaced_more bs i h))
-
--- the count
-pub back-laid : (at place : ℕ) (n : ℕ) (l l₁ l₂ : List ℕ) → (n ≡ 0 → ⊥) → at + length (back_text n) ≤ length l →
-    l₁ ≡ laid at (32 ∷ 62 ∷ 32 ∷ []) l → place ≡ at + 3 → l₂ ≡ laid place (pair_text n) l₁ → l₂ ≡ laid at (back_text n) l
-back-laid at place n l l₁ l₂ z f e₁ p e₂ =
-    let b = back_some n z in
-    let k = ap length b in
-    e₂ ∙ ap (laid place (pair_text n)) e₁ ∙ laid_join at place (32 ∷ 62 ∷ 32 ∷ []) (pair_text n) l (omega arith) (omega arith) ∙ ap (λ y. laid at y l) (sym b)
-
--- the line of a frame
-pub line-laid : (at a₁ a₂ a₃ c n : ℕ) (bs l l₁ l₂ l₃ l₄ : List ℕ) → at + length (line_text (exchange (c ∷ bs) n)) ≤ length l →
-    l₁ ≡ laid at (pair_text c) l → a₁ ≡ at + 2 → l₂ ≡ laid a₁ (spaced_text bs) l₁ → a₂ ≡ a₁ + 3 * length bs →
-    l₃ ≡ laid a₂ (back_text n) l₂ → a₃ ≡ a₂ + length (back_text n) → l₄ ≡ laid a₃ (10 ∷ []) l₃ →
-    l₄ ≡ laid at (line_text (exchange (c ∷ bs) n)) l
-line-laid at a₁ a₂ a₃ c n bs l l₁ l₂ l₃ l₄ f e₁ p₁ e₂ p₂ e₃ p₃ e₄ =
-    let x = line-size c bs n in
-    let s = spaced-size bs in
-    let P = pair_text c in
-    let S = spaced_text bs in
-    let B = back_text n in
-    let j = length-append P S in
-    let k = length-append (P ++ S) B in
-    let q₂ : l₂ ≡ laid at (P ++ S) l = e₂ ∙ ap (laid a₁ S) e₁ ∙ laid_join at a₁ P S l (omega arith) (omega arith) in
-    let q₃ : l₃ ≡ laid at ((P ++ S) ++ B) l = e₃ ∙ ap (laid a₂ B) q₂ ∙ laid_join at a₂ (P ++ S) B l (omega arith) (omega arith) in
-    e₄ ∙ ap (laid a₃ (10 ∷ [])) q₃ ∙ laid_join at a₃ ((P ++ S) ++ B) (10 ∷ []) l (omega arith) (omega arith)
-    ∙ ap (λ y. laid at y l) (sym (line-parts c bs n))
+    let d = length-append (pair_text c) (spaced_text bs) in omega arith
 
 -- what fits a buffer, and what does not
 pub over-fits : (w l : List ℕ) → length w ≤ length l → over w l ≡ topped w l
 over-fits w l h = ap (λ b. cond b (topped w l) l) (le-leb (length w) (length l) h)
-
-pub over-short : (w l : List ℕ) → length l < length w → over w l ≡ l
-over-short w l h = ap (λ b. cond b (topped w l) l) (lt-leb (length w) (length l) h)
-
-pub fitted-fits : (w : List ℕ) (n : ℕ) → length w ≤ n → fitted w n ≡ Ok (length w)
-fitted-fits w n h = ap (λ b. cond b (Ok (length w)) (Err (TextShort (length w)))) (le-leb (length w) n h)
-
-pub fitted_short : (w : List ℕ) (n : ℕ) → n < length w → fitted w n ≡ Err (TextShort (length w))
-fitted_short w n h = ap (λ b. cond b (Ok (length w)) (Err (TextShort (length w)))) (lt-leb (length w) n h)

@@ -7,7 +7,7 @@ pub mod Complete
 pub mod Spelling
 pub mod Single
 pub mod Laying
-pub mod Answering
+pub mod Sheets
 pub mod Keeping
 pub mod Progress
 pub mod Planned

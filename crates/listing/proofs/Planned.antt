@@ -1,7 +1,7 @@
 -- The frames of steps, and their text.
 use Rattle.std.proofs.Common.{◌≡◌, ℕ, zero, suc, ◌+◌, ◌*◌, ◌<◌, ◌≤◌, Bool, true, false, cond, List, [], ◌∷◌, ◌++◌, length, get_or, take, drop, Some, None, Ok, Err, Option, sym, refl, ap, ◌∙◌, subst, ap₂, arith, lit≤, length-append, length-take}
-use Rattle.std.proofs.lemmas.List.{append-nil, map-append, drop_more, drop_all, take_more, take-append-drop}
-use Rattle.std.proofs.lemmas.Bool.{cond-true, cond-false, and_parts, leb-true, ltb-true, le-leb, lt-leb}
+use Rattle.std.proofs.lemmas.List.{append-nil, map-append, drop_more, take_more, take-append-drop}
+use Rattle.std.proofs.lemmas.Bool.{and_parts, leb-true, ltb-true}
 use Rattle.memory.specs.declared.kind.Kind.{Kind}
 use Rattle.memory.specs.declared.kind.Kind.TheVariants.{Program, Alter, Preset, SectorErase, BulkErase}
 use Rattle.memory.specs.Page.{block}
@@ -11,17 +11,20 @@ use Rattle.port.specs.declared.instruction.Operation.TheVariants as of_operation
 use Rattle.port.specs.declared.instruction.Instruction.{Instruction}
 use Rattle.port.specs.Instructions.{table}
 use Rattle.port.specs.Build.{built, listed, carried_by}
+use Rattle.port.specs.Operations.{operation_of}
 use Rattle.port.proofs.Building.{length-built}
 use Rattle.least.specs.declared.step.Step.{Step}
 use Rattle.least.specs.Steps.{step_cycle, cycles_of, sent_by}
 use Rattle.listing.specs.declared.plan_fault.PlanListingFault.{PlanListingFault}
-use Rattle.listing.specs.declared.plan_fault.PlanListingFault.TheVariants.{TextShort}
 use Rattle.listing.specs.Parts.{exchange}
-use Rattle.listing.specs.PlanFault.{lies, filled, unlisted, or_else, first_unlisted}
-use Rattle.listing.specs.PlanFrames.{enabling, sending, plan_frames, operation_of, plan_text, answered}
-use Rattle.listing.specs.Writing.{line_text, listing, laid}
+use Rattle.listing.specs.PlanFault.{lies, filled, unlisted, or_else, first_unlisted, checked}
+use Rattle.listing.specs.PlanFrames.{enabling, sending, plan_frames, plan_text}
+use Rattle.listing.specs.declared.sheet.Sheet.{Sheet}
+use Rattle.listing.specs.Sheets.{Room, Wrote}
+use Rattle.listing.specs.Writing.{line_text, listing}
 use Rattle.listing.proofs.Keeping.{listing_join}
-use Rattle.listing.proofs.Laying.{line-size, laid_join}
+use Rattle.listing.proofs.Laying.{line-size, spaced-size}
+use Rattle.listing.proofs.Sheets.{room_first, room_next, wrote_join}
 
 -- the frame of a step's cycle, as the builder is asked for it
 pub step-frame : (kind : Kind) (a : ℕ) (s : List ℕ) → sending (cycle_of kind a s) ≡ exchange (built (operation_of kind) a (sent_by (cycle_of kind a s))) 0
@@ -103,21 +106,19 @@ pub first_here : (sent : List ℕ) (steps : List Step) (i : ℕ) (d : Step) (f :
     → first_unlisted sent (drop i steps) ≡ Some f
 first_here sent steps i d f h e = ap (first_unlisted sent) (drop_more steps i d h) ∙ ap (λ o. or_else o (first_unlisted sent (drop (i + 1) steps))) e
 
-pub first_past : (sent : List ℕ) (steps : List Step) (i : ℕ) (d : Step) → i < length steps → unlisted sent (get_or steps i d) ≡ None
-    → first_unlisted sent (drop i steps) ≡ first_unlisted sent (drop (i + 1) steps)
-first_past sent steps i d h e = ap (first_unlisted sent) (drop_more steps i d h) ∙ ap (λ o. or_else o (first_unlisted sent (drop (i + 1) steps))) e
+-- what the check of a step, or of the steps, says
+pub checked_some : (o : Option PlanListingFault) (f : PlanListingFault) → Err f ≡ checked o → o ≡ Some f
+checked_some None f e = absurd (let z : ◌≡◌ {A = ℕ} 0 1 = cc in omega arith)
+checked_some (Some g) f e = let h : g ≡ f = cc in ap (λ x. Some x) h
 
-pub first_end : (sent : List ℕ) (steps : List Step) (i : ℕ) → length steps ≤ i → first_unlisted sent (drop i steps) ≡ None
-first_end sent steps i h = ap (first_unlisted sent) (drop_all i steps h)
+pub checked_none : (o : Option PlanListingFault) → Ok tt ≡ checked o → o ≡ None
+checked_none None e = refl
+checked_none (Some g) e = absurd (let z : ◌≡◌ {A = ℕ} 0 1 = cc in omega arith)
 
 -- a line of bytes and nothing wanted back
 pub line-bytes : (w : List ℕ) → 0 < length w → length (line_text (exchange w 0)) ≡ 3 * length w
 line-bytes [] h = absurd (omega arith)
-line-bytes (b ∷ bs) h = let l = line-size b bs 0 in omega arith
-
-pub first_rest : (w : List ℕ) → 0 < length w → get_or w 0 0 ∷ drop 1 w ≡ w
-first_rest [] h = absurd (omega arith)
-first_rest (b ∷ bs) h = refl
+line-bytes (b ∷ bs) h = let l = line-size b bs 0 in let n = spaced-size bs in omega arith
 
 -- the two lines of a step
 pub step-text : (sent : List ℕ) (s : Step) → plan_text sent (s ∷ []) ≡ line_text enabling ++ line_text (sending (step_cycle sent s))
@@ -148,25 +149,19 @@ pub size_more : (sent : List ℕ) (steps : List Step) (i : ℕ) (d : Step) (n : 
 size_more sent steps i d n h e =
     ap length (text_more sent steps i d h) ∙ length-append (plan_text sent (take i steps)) (plan_text sent (get_or steps i d ∷ [])) ∙ ap (λ k. length (plan_text sent (take i steps)) + k) (sym e)
 
--- for which there is room
-pub text_room : (sent : List ℕ) (steps : List Step) (i : ℕ) (d : Step) (at n : ℕ) → i < length steps → at ≡ length (plan_text sent (take i steps)) → length (plan_text sent steps) ≤ n
-    → at + length (plan_text sent (get_or steps i d ∷ [])) ≤ n
-text_room sent steps i d at n h e l =
-    let a = size_more sent steps i d _ h refl in
-    let b = ap (λ x. length (plan_text sent x)) (take-append-drop (i + 1) steps) in
-    let c = ap length (text_join sent (take (i + 1) steps) (drop (i + 1) steps)) ∙ length-append (plan_text sent (take (i + 1) steps)) (plan_text sent (drop (i + 1) steps)) in omega arith
+-- written behind those before it
+module _ (sent : List ℕ) (steps : List Step) (i : ℕ) (d : Step) {p q : Sheet} (h : i < length steps) (r : Room p (plan_text sent steps))
+    (w : Wrote p q (plan_text sent (take i steps))) where
+  up_to : Room p (plan_text sent (take (i + 1) steps))
+  up_to =
+      let e = ap (plan_text sent) (sym (take-append-drop (i + 1) steps)) ∙ text_join sent (take (i + 1) steps) (drop (i + 1) steps) in
+      room_first p (plan_text sent (take (i + 1) steps)) (plan_text sent (drop (i + 1) steps)) e r
 
--- laid behind those before it
-pub text-laid : (sent : List ℕ) (steps : List Step) (i : ℕ) (d : Step) (at n : ℕ) (l l₀ l₁ : List ℕ) → i < length steps → length (plan_text sent steps) ≤ length l
-    → at ≡ length (plan_text sent (take i steps)) → l₀ ≡ laid 0 (plan_text sent (take i steps)) l
-    → n ≡ at + length (plan_text sent (get_or steps i d ∷ [])) → l₁ ≡ laid at (plan_text sent (get_or steps i d ∷ [])) l₀
-    → (n ≡ length (plan_text sent (take (i + 1) steps))) × (l₁ ≡ laid 0 (plan_text sent (take (i + 1) steps)) l)
-text-laid sent steps i d at n l l₀ l₁ h f p q r t =
-    let T = plan_text sent (take i steps) in
-    let S = plan_text sent (get_or steps i d ∷ []) in
-    let a = size_more sent steps i d _ h refl in
-    let b = text_room sent steps i d at (length l) h p f in
-    (omega arith, t ∙ ap (laid at S) q ∙ laid_join 0 at T S l (omega arith) (omega arith) ∙ ap (λ y. laid 0 y l) (sym (text_more sent steps i d h)))
+  pub step_room : Room q (plan_text sent (get_or steps i d ∷ []))
+  step_room = room_next (plan_text sent (get_or steps i d ∷ [])) (text_more sent steps i d h) up_to w
+
+  pub step_turn : {s : Sheet} → Wrote q s (plan_text sent (get_or steps i d ∷ [])) → Wrote p s (plan_text sent (take (i + 1) steps))
+  step_turn v = wrote_join (text_more sent steps i d h) up_to w v
 
 -- the lengths of a step's lines
 pub step-size : (sent : List ℕ) (s : Step)
@@ -192,9 +187,11 @@ module _ (sent : List ℕ) (s : Step) (o : Operation) (bytes : List ℕ) (e : o 
       let l = line-bytes (built o s.address bytes) (some_bytes o s.address bytes) in
       let t = step-size sent s in (omega arith, omega arith)
 
--- what fits a buffer, and what does not
-pub answer-fits : (w : List ℕ) (n : ℕ) → length w ≤ n → answered None w n ≡ Ok (length w)
-answer-fits w n h = cond-true _ _ _ (le-leb (length w) n h)
-
-pub answer-short : (w : List ℕ) (n : ℕ) → n < length w → answered None w n ≡ Err (TextShort (length w))
-answer-short w n h = cond-false _ _ _ (lt-leb (length w) n h)
+-- the length of a step's lines, by the row of the table and the data
+pub step-lines : (sent : List ℕ) (s : Step) (i : Instruction) (o : Operation) (bytes : List ℕ) → unlisted sent s ≡ None → i ≡ listed o → o ≡ operation_of s.kind → bytes ≡ sent_by (step_cycle sent s)
+    → (length (plan_text sent (s ∷ [])) ≡ 3 + 3 * (1 + i.address + i.dummy + length bytes)) × (1 + i.address + i.dummy ≤ 4) × (length bytes ≤ 64)
+step-lines sent s i o bytes ok r e b =
+    let f = frame-size s.kind i s.address (block s.place s.length sent) (r ∙ ap listed e) in
+    let n = ap length b in
+    let m = sent_most sent s ok in
+    let t = step-size sent s in (omega arith, f.1, omega arith)

@@ -1,6 +1,6 @@
 -- A text read line by line.
-use Rattle.std.proofs.Common.{◌≡◌, ℕ, ◌+◌, ◌<◌, ◌≤◌, List, [], ◌∷◌, ◌++◌, length, drop, Some, None, Ok, Option, sym, refl, ap, ◌∙◌, subst, append_assoc, arith, length-append}
-use Rattle.std.proofs.lemmas.List.{append-nil}
+use Rattle.std.proofs.Common.{◌≡◌, ℕ, ◌+◌, ◌≤◌, List, [], ◌∷◌, ◌++◌, length, drop, Some, None, Ok, Err, Option, Result, sym, refl, ap, ◌∙◌, subst, append_assoc, arith, length-append}
+use Rattle.std.proofs.lemmas.List.{append-nil, length-drop}
 use Rattle.listing.specs.declared.fault.ListingFault.{ListingFault}
 use Rattle.listing.specs.declared.item.Line.{Line}
 use Rattle.listing.specs.Fault.{row, malformed_at}
@@ -107,22 +107,6 @@ pub record Copying (text was left : List ℕ) (l : ℕ) (rest : List ℕ) (at : 
   pub place : at ≡ length written
   pub buffer : left ≡ topped written was
 
-pub copying_start : (text was : List ℕ) (n : ℕ) → n ≤ length was → Measured text n → Copying text was was 1 text 0
-copying_start text was n h m =
-    record {
-      all-items = m.items;
-      all = m.exchanges;
-      whole = m.reads;
-      fits = let k = m.size in omega arith;
-      items = m.items;
-      exchanges = m.exchanges;
-      reads = m.reads;
-      written = [];
-      split = refl;
-      place = refl;
-      buffer = refl;
-    }
-
 -- the part of what is left to write that a taken line keeps
 copying_split : {text was left₀ : List ℕ} {l m at : ℕ} {s left : List ℕ} {r : Line} (p : Copying text was left₀ l s at) (t : Taken l m s left r) →
     listing p.all ≡ (p.written ++ kept_of (spots_of r)) ++ listing (rest_of t p.reads).exchanges
@@ -132,7 +116,7 @@ copying_split {r} p t =
     ∙ ap (λ x. p.written ++ x) (ap listing q.asked ∙ listing_join t.exchanges q.exchanges ∙ ap (λ x. x ++ listing q.exchanges) (line_kept t.reads))
     ∙ sym (append_assoc p.written (kept_of (spots_of r)) (listing q.exchanges))
 
-pub copying_fits : {text was left₀ : List ℕ} {l m at : ℕ} {s left : List ℕ} {r : Line} → Copying text was left₀ l s at → Taken l m s left r → at + length (kept_of (spots_of r)) ≤ length was
+copying_fits : {text was left₀ : List ℕ} {l m at : ℕ} {s left : List ℕ} {r : Line} → Copying text was left₀ l s at → Taken l m s left r → at + length (kept_of (spots_of r)) ≤ length was
 copying_fits {r} p t =
     let q = rest_of t p.reads in
     let a = ap length (copying_split p t) in
@@ -140,6 +124,14 @@ copying_fits {r} p t =
     let c = length-append p.written (kept_of (spots_of r)) in
     let d = p.place in
     let e = p.fits in omega arith
+
+pub copying_room : {text was left₀ : List ℕ} {l m at : ℕ} {s left : List ℕ} {r : Line} → Copying text was left₀ l s at → Taken l m s left r → at + length (kept_of (spots_of r)) ≤ length left₀
+copying_room {was} p t =
+    let n = copying_fits p t in
+    let d = p.place in
+    let b = ap length p.buffer in
+    let a = length-append p.written (drop (length p.written) was) in
+    let e = length-drop (length p.written) was in omega arith
 
 pub copying_more : {text was left₀ left₁ : List ℕ} {l m at n : ℕ} {s left : List ℕ} {r : Line} → Copying text was left₀ l s at → Taken l m s left r →
     left₁ ≡ laid at (kept_of (spots_of r)) left₀ → n ≡ at + length (kept_of (spots_of r)) → Copying text was left₁ m left n
@@ -170,14 +162,14 @@ end_asks over x f = refl
 end_asks (broken h) x f = absurd (h.some x)
 end_asks (line {w} {t} a r) x f = absurd (let n = ap length x in let k = length-append w (10 ∷ t) in omega arith)
 
-pub copying_end : {text was left : List ℕ} {l at : ℕ} {s : List ℕ} → Copying text was left l s at → s ≡ [] → Copied text was left
+copying_end : {text was left : List ℕ} {l at : ℕ} {s : List ℕ} → Copying text was left l s at → s ≡ [] → Copied text was left
 copying_end {text} {was} p e is xs r =
     let u = unambiguous 1 text p.all-items is p.all xs ended ended p.whole r in
     let w : p.written ≡ listing xs = sym (append-nil p.written) ∙ ap (λ x. p.written ++ x) (sym (end_asks p.reads e refl)) ∙ sym p.split ∙ ap listing u.1 in
     p.buffer ∙ ap (λ x. x ++ drop (length x) was) w
 
 -- and the reader does not stop before it
-pub copying_goes : {text was left : List ℕ} {l at c : ℕ} {s : List ℕ} → Copying text was left l s at → Stops s c → ⊥
+copying_goes : {text was left : List ℕ} {l at c : ℕ} {s : List ℕ} → Copying text was left l s at → Stops s c → ⊥
 copying_goes p h = stopped p.reads refl h
   where
     stopped : {l : ℕ} {s : List ℕ} {is : List Spot} {xs : List Exchange} {e : Ending} {c : ℕ} → Reads l s is xs e → e ≡ ended → Stops s c → ⊥
@@ -185,12 +177,16 @@ copying_goes p h = stopped p.reads refl h
     stopped (broken {l} {c} k) f h = let z : ◌≡◌ {A = ℕ} 0 1 = cc in omega arith
     stopped (line {w} {t} a r) f h = no_stop t (w ++ 10 ∷ t) _ a h refl
 
+-- so when it gives no line, all is written
+pub copying_over : {text was left : List ℕ} {l at : ℕ} {s : List ℕ} (m : ℕ) (rest : List ℕ) (o : Result (Option Line) ListingFault) → Copying text was left l s at → Next l m s rest o →
+    ((r : Line) → o ≡ Ok (Some r) → ⊥) → Copied text was left
+copying_over m rest (Ok None) p h k = copying_end p h.0
+copying_over m rest (Ok (Some r)) p h k = absurd (k r refl)
+copying_over m rest (Err f) p h k = absurd (copying_goes p h.1)
+
 -- the reader's answer, taken apart
 pub next_some : (l m : ℕ) (was left : List ℕ) (o : Option Line) (r : Line) → o ≡ Some r → Next l m was left (Ok o) → Taken l m was left r
 next_some l m was left o r e h = let P : Option Line → Type 0 = λ x. Next l m was left (Ok x) in subst P e h
 
 pub next_none : (l m : ℕ) (was left : List ℕ) (o : Option Line) → o ≡ None → Next l m was left (Ok o) → was ≡ []
 next_none l m was left o e h = let P : Option Line → Type 0 = λ x. Next l m was left (Ok x) in (subst P e h).0
-
-pub taken_less : {l m : ℕ} {s left : List ℕ} {r : Line} → Taken l m s left r → length left < length s
-taken_less {left} t = let a = ap length t.split in let b = length-append t.text (10 ∷ left) in omega arith

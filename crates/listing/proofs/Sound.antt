@@ -2,14 +2,14 @@
 use Rattle.std.proofs.Common.{◌≡◌, ℕ, zero, suc, ◌+◌, ◌<◌, ◌≤◌, Bool, true, false, cond, eqb, List, [], ◌∷◌, ◌++◌, length, get_or, drop, Some, None, Ok, Err, Option, Result, sym, refl, ap, ◌∙◌, subst, append_assoc, arith, length-append}
 use Rattle.std.proofs.lemmas.Bool.{eqb-true, eqb-false}
 use Rattle.std.proofs.lemmas.Bool.Decides.{nat_tests}
-use Rattle.std.proofs.lemmas.List.{drop-drop, length-drop}
+use Rattle.std.proofs.lemmas.List.{drop-drop, length-drop, get_or-drop}
 use Rattle.listing.specs.declared.extent.Extent.{Extent}
 use Rattle.listing.specs.declared.extent.Extent.TheVariants.{Note, Frame, Counted}
 use Rattle.listing.specs.Hex.{Pair, Pairs, one, more}
 use Rattle.listing.specs.Grammar.{Unbroken, none, byte, Place, start, in_note, paired, spaced, marked, wanted, told, Step, opens, notes, first, spaces, next, marks, parts, counts, Spells, here, step, Stuck}
 use Rattle.listing.specs.Scan.{pair_of, on_pair, goes_on, at_end, at_count, at_mark, closing, pairs, inside}
 use Rattle.listing.proofs.Digits.{pair_read, pair_size, pair_left, pair-spelled}
-use Rattle.listing.proofs.Drops.{first_left, next_left}
+use Rattle.listing.proofs.Drops.{first_left}
 use Rattle.listing.proofs.Turns.{pairs_turn}
 
 -- from the place q the text goes as far as e, `at` bytes of the line standing before it, and no further
@@ -248,7 +248,7 @@ pairs-sound (suc n) at s q f o = pairs-step at s q o (λ v e g. pairs-sound n (a
 
     unmarked : goes_on (drop 2 s) ≡ true → get_or (drop 3 s) 0 0 ≡ 62 → ⊥
     unmarked g x =
-        let a : get_or (drop 2 s) 1 0 ≡ 62 = next_left s 2 1 ∙ sym (first_left s 3) ∙ x in
+        let a : get_or (drop 2 s) 1 0 ≡ 62 = get_or-drop 2 s 1 0 ∙ sym (first_left s 3) ∙ x in
         let z : ◌≡◌ {A = ℕ} 0 1 = grind (arith, nat_tests) in omega arith
 
 -- in a note

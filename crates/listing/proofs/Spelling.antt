@@ -114,6 +114,22 @@ good_turn v t at e h = go (cases_lt (at + 2) (length t))
         ap good (values_last t at v e l)
         ∙ ap (λ x. v ∷ good (values (at + 3) x)) (sym (drop_all (at + 3) t (omega arith)))
 
+-- there is one while values are left
+pub value_left : (t : List ℕ) (at i : ℕ) → i < length (good (values 0 t)) → drop i (good (values 0 t)) ≡ good (values at (drop at t)) → at ≤ length t
+unfolding values
+value_left t at i h d = go (cases_lt at (length t))
+  where
+    go : (at < length t) ⊎ (length t ≤ at) → at ≤ length t
+    go (inl l) = omega arith
+    go (inr l) =
+        absurd (let n = ap length (d ∙ ap (λ x. good (values at x)) (drop_all at t l)) in
+        let m = length-drop i (good (values 0 t)) in omega arith)
+
+pub value_here : (t : List ℕ) (at i : ℕ) → i < length (good (values 0 t)) → drop i (good (values 0 t)) ≡ good (values at (drop at t)) → pair_of (drop at t) ≡ None → ⊥
+value_here t at i h d e =
+    let n = ap length (d ∙ ap good (values_none t at e)) in
+    let m = length-drop i (good (values 0 t)) in omega arith
+
 -- a value put behind those before it
 pub value_turn : (t was : List ℕ) (v at i : ℕ) (l : List ℕ) →
     pair_of (drop at t) ≡ Some v → i < length (good (values 0 t)) → i < length was →

@@ -1,19 +1,33 @@
 -- One turn of each way through a line.
-use Rattle.std.proofs.Common.{◌≡◌, ℕ, ◌+◌, ◌<◌, ◌≤◌, true, false, cond, eqb, List, [], ◌∷◌, length, get_or, drop, Some, None, Ok, Err, sym, refl, ap, ◌∙◌}
-use Rattle.std.proofs.lemmas.List.{drop-drop, drop_more, drop_all}
-use Rattle.listing.specs.declared.extent.Extent.TheVariants.{Note, Frame, Counted}
-use Rattle.std.proofs.lemmas.Bool.{eq-eqb, ne_eqb}
-use Rattle.listing.specs.Scan.{pair_of, on_pair, goes_on, at_end, at_count, at_mark, closing, pairs, inside}
+use Rattle.std.proofs.Common.{◌≡◌, ℕ, ◌+◌, Bool, true, false, cond, eqb, List, [], ◌∷◌, length, get_or, drop, Some, None, Option, Ok, Err, Result, sym, refl, ap, ◌∙◌, add-zero, zero-add, arith}
+use Rattle.std.specs.List.{position, position_from}
+use Rattle.std.proofs.lemmas.Iterator.Adapters.{position_from-zero}
+use Rattle.std.proofs.lemmas.List.{drop-drop}
+use Rattle.listing.specs.declared.extent.Extent.{Extent}
+use Rattle.listing.specs.declared.extent.Extent.TheVariants.{Note, Frame}
+use Rattle.std.proofs.lemmas.Bool.{ne_eqb}
+use Rattle.listing.specs.Scan.{pair_of, on_pair, goes_on, at_mark, closing, pairs, inside}
 use Rattle.listing.proofs.Drops.{first_left}
 
-pub inside_more : (t : List ℕ) (i : ℕ) → i < length t →
-    inside i (drop i t) ≡ cond (eqb (get_or t i 0) 10) (Ok (Note i)) (inside (i + 1) (drop (i + 1) t))
-unfolding inside
-inside_more t i h = ap (inside i) (drop_more t i 0 h)
+abbrev pub noted : ℕ → Option ℕ → Result Extent ℕ
+noted n None = Err n
+noted n (Some i) = Ok (Note i)
 
-pub inside_none : (t : List ℕ) (i : ℕ) → length t ≤ i → inside i (drop i t) ≡ Err i
+noted_more : (at : ℕ) (s : List ℕ) (c : Bool) (o : Option ℕ) → inside (at + 1) s ≡ noted (at + 1 + length s) o →
+    (b : ℕ) → cond c (Ok (Note at)) (inside (at + 1) s) ≡ noted (at + length (b ∷ s)) (cond c (Some at) o)
+noted_more at s true o e b = refl
+noted_more at s false o e b = let n : at + 1 + length s ≡ at + length (b ∷ s) = omega arith in e ∙ ap (λ k. noted k o) n
+
+inside_from : (at : ℕ) (s : List ℕ) → inside at s ≡ noted (at + length s) (position_from (λ b. eqb b 10) at s)
 unfolding inside
-inside_none t i h = ap (inside i) (drop_all i t h)
+inside_from at [] = ap Err (sym (add-zero at))
+inside_from at (b ∷ s) = noted_more at s (eqb b 10) (position_from (λ b. eqb b 10) (at + 1) s) (inside_from (at + 1) s) b
+
+-- a note, from its first 0Ah
+pub inside_position : (s : List ℕ) (o : Option ℕ) → o ≡ position (λ b. eqb b 10) s → inside 0 s ≡ noted (length s) o
+inside_position s o e =
+    inside_from 0 s ∙ ap (λ n. noted n (position_from (λ b. eqb b 10) 0 s)) (zero-add (length s))
+    ∙ ap (noted (length s)) (sym (e ∙ position_from-zero (λ b. eqb b 10) s))
 
 pub pairs_turn : (at : ℕ) (s : List ℕ) →
     pairs at s ≡ on_pair (pair_of s) (Err at) (λ _. cond (goes_on (drop 2 s)) (pairs (at + 3) (drop 3 s)) (closing (at + 2) (drop 2 s)))
@@ -47,34 +61,6 @@ module _ (t : List ℕ) (at : ℕ) where
       turned t at
       ∙ ap (λ o. on_pair o (Err at) (λ _. cond (goes_on (drop (at + 2) t)) (pairs (at + 3) (drop (at + 3) t)) (closing (at + 2) (drop (at + 2) t)))) e
       ∙ ap (λ b. cond b (pairs (at + 3) (drop (at + 3) t)) (closing (at + 2) (drop (at + 2) t))) g
-
-  pub end_yes : get_or t at 0 ≡ 10 → at_end at (drop at t) ≡ Ok (Counted at)
-  end_yes h = ap (λ b. cond b (Ok (Counted at)) (Err at)) (eq-eqb _ _ (first_left t at ∙ h))
-
-  pub end_no : (get_or t at 0 ≡ 10 → ⊥) → at_end at (drop at t) ≡ Err at
-  end_no h = ap (λ b. cond b (Ok (Counted at)) (Err at)) (ne_eqb _ _ (λ e. h (sym (first_left t at) ∙ e)))
-
-  pub count_none : pair_of (drop at t) ≡ None → at_count at (drop at t) ≡ Err at
-  count_none e = ap (λ o. on_pair o (Err at) (λ v. cond (eqb v 0) (Err at) (at_end (at + 2) (drop 2 (drop at t))))) e
-
-  pub count_zero : (v : ℕ) → pair_of (drop at t) ≡ Some v → v ≡ 0 → at_count at (drop at t) ≡ Err at
-  count_zero v e z =
-      ap (λ o. on_pair o (Err at) (λ v. cond (eqb v 0) (Err at) (at_end (at + 2) (drop 2 (drop at t))))) e
-      ∙ ap (λ b. cond b (Err at) (at_end (at + 2) (drop 2 (drop at t)))) (eq-eqb v 0 z)
-
-  pub count_yes : (v : ℕ) → pair_of (drop at t) ≡ Some v → (v ≡ 0 → ⊥) → at_count at (drop at t) ≡ at_end (at + 2) (drop (at + 2) t)
-  count_yes v e z =
-      ap (λ o. on_pair o (Err at) (λ v. cond (eqb v 0) (Err at) (at_end (at + 2) (drop 2 (drop at t))))) e
-      ∙ ap (λ b. cond b (Err at) (at_end (at + 2) (drop 2 (drop at t)))) (ne_eqb v 0 z)
-      ∙ ap (at_end (at + 2)) (drop-drop 2 at t)
-
-  pub mark_yes : get_or t at 0 ≡ 32 → at_mark at (drop at t) ≡ at_count (at + 1) (drop (at + 1) t)
-  mark_yes h =
-      ap (λ b. cond b (at_count (at + 1) (drop 1 (drop at t))) (Err at)) (eq-eqb _ _ (first_left t at ∙ h))
-      ∙ ap (at_count (at + 1)) (drop-drop 1 at t)
-
-  pub mark_no : (get_or t at 0 ≡ 32 → ⊥) → at_mark at (drop at t) ≡ Err at
-  mark_no h = ap (λ b. cond b (at_count (at + 1) (drop 1 (drop at t))) (Err at)) (ne_eqb _ _ (λ e. h (sym (first_left t at) ∙ e)))
 
   pub closing_end : get_or t at 0 ≡ 10 → closing at (drop at t) ≡ Ok (Frame at)
   unfolding closing

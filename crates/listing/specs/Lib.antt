@@ -3,6 +3,7 @@ pub mod Hex
 pub mod Parts
 pub mod Grammar
 pub mod Writing
+pub mod Sheets
 pub mod Scan
 pub mod Values
 pub mod Promise

@@ -1,5 +1,5 @@
 -- The refusals of listing a plan.
-use Rattle.std.specs.Prelude.{ℕ, ◌+◌, Bool, true, cond, ◌&&◌, List, [], ◌∷◌, length, Some, None, Option, nat_le, nat_lt}
+use Rattle.std.specs.Prelude.{ℕ, ◌+◌, Bool, true, cond, ◌&&◌, List, [], ◌∷◌, length, Some, None, Option, Ok, Err, Result, nat_le, nat_lt}
 use Rattle.memory.specs.Row.{Row, rowed}
 use Rattle.memory.specs.declared.kind.Kind.{Kind}
 use Rattle.memory.specs.declared.kind.Kind.TheVariants.{Program, Alter, Preset, SectorErase, BulkErase}
@@ -47,3 +47,8 @@ or_else (Some f) o = Some f
 abbrev pub first_unlisted : List ℕ → List Step → Option PlanListingFault
 first_unlisted sent [] = None
 first_unlisted sent (s ∷ steps) = or_else (unlisted sent s) (first_unlisted sent steps)
+
+-- a refusal, if there is one, as the check of the steps gives it
+abbrev pub checked : Option PlanListingFault → Result Unit PlanListingFault
+checked None = Ok tt
+checked (Some f) = Err f

@@ -1,9 +1,6 @@
 -- The frames of cycles, and their listing.
 use Rattle.std.specs.Prelude.{ℕ, cond, List, [], ◌∷◌, length, Some, None, Ok, Err, Option, Result, nat_le}
-use Rattle.memory.specs.declared.kind.Kind.{Kind}
-use Rattle.memory.specs.declared.kind.Kind.TheVariants as of_kind
 use Rattle.memory.specs.Cycle.{Cycle, program, alter, preset, sector_erase, bulk_erase}
-use Rattle.port.specs.declared.instruction.Operation.{Operation}
 use Rattle.port.specs.declared.instruction.Operation.TheVariants.{WriteEnable, Program, Alter, Preset, SectorErase, BulkErase}
 use Rattle.port.specs.Build.{built}
 use Rattle.least.specs.declared.step.Step.{Step}
@@ -31,13 +28,6 @@ sending bulk_erase = exchange (built BulkErase 0 []) 0
 abbrev pub plan_frames : List Cycle → List Exchange
 plan_frames [] = []
 plan_frames (y ∷ ys) = enabling ∷ sending y ∷ plan_frames ys
-
-abbrev pub operation_of : Kind → Operation
-operation_of of_kind.Program = Program
-operation_of of_kind.Alter = Alter
-operation_of of_kind.Preset = Preset
-operation_of of_kind.SectorErase = SectorErase
-operation_of of_kind.BulkErase = BulkErase
 
 -- the text of a plan
 abbrev pub plan_text : List ℕ → List Step → List ℕ

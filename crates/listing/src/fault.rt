@@ -1,4 +1,4 @@
-// Why a listing is refused.
+// Why a listing is refused. It is not `Reported`: a report tells values of a `usize`, and `needed` can be past them.
 
 #[derive(Clone, Copy, PartialEq, Eq, Debug)]
 pub enum ListingFault {

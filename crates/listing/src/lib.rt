@@ -4,15 +4,16 @@
 mod bytes;
 mod extent;
 pub mod fault;
+pub mod hex;
 pub mod item;
 pub mod pairs;
 pub mod plan;
 pub mod plan_fault;
 mod plan_refusal;
 mod plan_text;
-mod put;
 pub mod reader;
 pub mod rewrite;
+mod sheet;
 #[cfg(test)]
 mod tests;
 pub mod writer;

@@ -1,48 +1,53 @@
 // The bytes of a frame or a count.
-ghost use Rattle.std.specs.Prelude.{◌≡◌, ℕ, ◌+◌, ◌≤◌, ◌++◌, length, drop};
+ghost use Rattle.std.specs.Prelude.{◌≡◌, ◌+◌, ◌-◌, ◌^◌, ◌<◌, length};
+ghost use Rattle.listing.specs.declared.fault.ListingFault.TheVariants.{Malformed};
 ghost use Rattle.listing.specs.Values.{values, good, tallied, Spelled, read_answer, read_into};
 
 use crate::bytes::pair;
 use crate::fault::ListingFault;
+
+// The refusal of a text that breaks after `at` bytes.
+fn broken(at: usize) -> ListingFault
+    requires { at < 2 ^ 64 - 1 }
+    ensures { result ≡ Malformed 1 (at + 1) }
+{
+    ListingFault::Malformed {
+        line: 1,
+        column: at + 1,
+    }
+}
 
 // How many pairs a text has, or where it breaks.
 fn count_pairs(pairs: &[u8]) -> Result<usize, ListingFault>
     ensures { result ≡ tallied 0 (values 0 pairs.now) }
 {
     let mut count = 0;
+    // `at` is also the place that is told, so an iterator would have to count beside it.
     let mut at = 0;
     loop {
-        let Some(_) = pair(pairs, at) else {
-            return Err(ListingFault::Malformed {
-                line: 1,
-                column: at + 1,
-            });
-        };
+        pair(&pairs[at..]).ok_or(broken(at))?;
         count += 1;
         at += 2;
-        if at == pairs.len() {
-            return Ok(count);
+        match pairs.get(at) {
+            None => return Ok(count),
+            Some(b' ') => at += 1,
+            Some(_) => return Err(broken(at)),
         }
-        if pairs[at] != b' ' {
-            return Err(ListingFault::Malformed {
-                line: 1,
-                column: at + 1,
-            });
-        }
-        at += 1;
     }
 }
 
-fn copy_values(pairs: &[u8], count: usize, into: &mut [u8])
-    requires { (count ≡ length (good (values 0 pairs.now))) × (count ≤ length into.old) }
-    ensures { into.new ≡ good (values 0 pairs.now) ++ drop count into.old }
+// Writes the values of pairs, as many as the buffer holds.
+fn copy_values(pairs: &[u8], into: &mut [u8])
+    requires { length into.old ≡ length (good (values 0 pairs.now)) }
+    ensures { into.new ≡ good (values 0 pairs.now) }
 {
+    // In a `zip` with the chunks of the text the proof would not know what was written.
     let mut at = 0;
-    for i in 0..count {
-        let Some(value) = pair(pairs, at) else {
+    for byte in into.iter_mut() {
+        let Some(value) = pair(&pairs[at..]) else {
             return;
         };
-        into[i] = value;
+        *byte = value;
         at += 3;
     }
 }
@@ -60,6 +65,6 @@ pub fn read_pairs(pairs: &[u8], into: &mut [u8]) -> Result<usize, ListingFault>
             needed: count as u128,
         });
     }
-    copy_values(pairs, count, into);
+    copy_values(pairs, &mut into[..count]);
     Ok(count)
 }

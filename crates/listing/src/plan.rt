@@ -6,8 +6,9 @@ ghost use Rattle.listing.specs.Playing.{HasEffect};
 ghost use Rattle.listing.specs.Writing.{AllReadBack};
 
 use crate::plan_fault::PlanListingFault;
-use crate::plan_refusal::first_refusal;
+use crate::plan_refusal::check_steps;
 use crate::plan_text::{put_steps, text_len};
+use crate::sheet::Sheet;
 use least::step::Step;
 
 // Lists a plan, its steps with their data, as frames at the start of the buffer, and gives the length of the text.
@@ -20,12 +21,12 @@ pub fn list_plan(steps: &[Step], data: &[u8], into: &mut [u8]) -> Result<usize, 
     ensures reads { AllReadBack (plan_frames (cycles_of «data».now steps.now)) }
     ensures effect { HasEffect (cycles_of «data».now steps.now) }
 {
-    if let Some(fault) = first_refusal(steps, data) {
-        return Err(fault);
-    }
+    check_steps(steps, data)?;
     let needed = text_len(steps, data);
     if (into.len() as u128) < needed {
         return Err(PlanListingFault::TextShort { needed });
     }
-    Ok(put_steps(steps, data, into))
+    let mut sheet = Sheet::new(into);
+    put_steps(steps, data, &mut sheet);
+    Ok(sheet.at)
 }

@@ -1,4 +1,4 @@
-// Why a plan is not listed.
+// Why a plan is not listed. As `ListingFault` it is not `Reported`, for its `needed`.
 
 #[derive(Clone, Copy, PartialEq, Eq, Debug)]
 pub enum PlanListingFault {

@@ -1,6 +1,6 @@
 // Which steps of a plan can be listed.
 ghost use Rattle.std.specs.Prelude.{◌≡◌, length};
-ghost use Rattle.listing.specs.PlanFault.{addressed, filled, lies, unlisted, first_unlisted};
+ghost use Rattle.listing.specs.PlanFault.{addressed, filled, lies, unlisted, first_unlisted, checked};
 
 use crate::plan_fault::PlanListingFault;
 use least::step::Step;
@@ -42,31 +42,29 @@ fn is_filled(step: &Step, data: &[u8]) -> bool
     }
 }
 
-// Why a step is not listed, if it is not.
-fn refusal(step: &Step, data: &[u8]) -> Option<PlanListingFault>
-    ensures { result ≡ unlisted «data».now step.now }
+// Refuses a step that is not listed.
+fn check_step(step: &Step, data: &[u8]) -> Result<(), PlanListingFault>
+    ensures { result ≡ checked (unlisted «data».now step.now) }
 {
     if !is_addressed(step) {
-        return Some(PlanListingFault::Address {
+        return Err(PlanListingFault::Address {
             address: step.address,
         });
     }
     if !is_filled(step, data) {
-        return Some(PlanListingFault::PageData {
+        return Err(PlanListingFault::PageData {
             length: step.length,
         });
     }
-    None
+    Ok(())
 }
 
-// The refusal of the first step that is not listed.
-pub(crate) fn first_refusal(steps: &[Step], data: &[u8]) -> Option<PlanListingFault>
-    ensures { result ≡ first_unlisted «data».now steps.now }
+// Refuses at the first step that is not listed.
+pub(crate) fn check_steps(steps: &[Step], data: &[u8]) -> Result<(), PlanListingFault>
+    ensures { result ≡ checked (first_unlisted «data».now steps.now) }
 {
     for step in steps {
-        if let Some(fault) = refusal(step, data) {
-            return Some(fault);
-        }
+        check_step(step, data)?;
     }
-    None
+    Ok(())
 }

@@ -1,12 +1,14 @@
 // The text of a plan: for each step the line of write enable, and the line of its cycle's frame.
-ghost use Rattle.std.specs.Prelude.{◌≡◌, ◌+◌, ◌<◌, ◌≤◌, [], ◌∷◌, length, None};
+ghost use Rattle.std.specs.Prelude.{◌≡◌, ◌<◌, ◌≤◌, [], ◌∷◌, length, None};
 ghost use Rattle.port.specs.Build.{built};
 ghost use Rattle.least.specs.Steps.{step_cycle, sent_by};
 ghost use Rattle.listing.specs.Parts.{exchange};
 ghost use Rattle.listing.specs.PlanFault.{unlisted, first_unlisted};
-ghost use Rattle.listing.specs.PlanFrames.{operation_of, plan_text};
-ghost use Rattle.listing.specs.Writing.{laid, line_text};
+ghost use Rattle.listing.specs.PlanFrames.{plan_text};
+ghost use Rattle.listing.specs.Sheets.{Room, Wrote};
+ghost use Rattle.listing.specs.Writing.{line_text};
 
+use crate::sheet::Sheet;
 use crate::writer::{Frame, put_line};
 use least::step::Step;
 use memory::kind::Kind;
@@ -20,18 +22,6 @@ const LONGEST_FRAME: usize = 68;
 const ENABLE_LINE: usize = 3;
 
 const PAIR: usize = 3;
-
-fn operation_of(kind: Kind) -> Operation
-    ensures { result ≡ operation_of kind }
-{
-    match kind {
-        Kind::Program => Operation::Program,
-        Kind::Alter => Operation::Alter,
-        Kind::Preset => Operation::Preset,
-        Kind::SectorErase => Operation::SectorErase,
-        Kind::BulkErase => Operation::BulkErase,
-    }
-}
 
 // The data that a step sends: none for an erase.
 fn sent_by<'a>(step: &Step, data: &'a [u8]) -> &'a [u8]
@@ -52,7 +42,7 @@ fn step_len(step: &Step, data: &[u8]) -> usize
     ensures exact { result ≡ length (plan_text «data».now (step.now ∷ [])) }
     ensures most { result ≤ 207 }
 {
-    let row = Instruction::of(operation_of(step.kind));
+    let row = Instruction::of(Operation::from(step.kind));
     let head = 1 + row.address as usize + row.dummy as usize;
     ENABLE_LINE + PAIR * (head + sent_by(step, data).len())
 }
@@ -62,6 +52,7 @@ pub(crate) fn text_len(steps: &[Step], data: &[u8]) -> u128
     requires { first_unlisted «data».now steps.now ≡ None }
     ensures { result ≡ length (plan_text «data».now steps.now) }
 {
+    // By `map` and `sum` it was not proved that each call has a step that is listed, nor what the sum is.
     let mut needed: u128 = 0;
     for step in steps {
         needed += step_len(step, data) as u128;
@@ -69,57 +60,51 @@ pub(crate) fn text_len(steps: &[Step], data: &[u8]) -> u128
     needed
 }
 
-// Writes the line of a frame's bytes, with nothing wanted back, from `at` on, and gives the place after it.
-fn put_bytes(sent: &[u8], into: &mut [u8], at: usize) -> usize
+// Writes the line of a frame's bytes, with nothing wanted back.
+fn put_bytes(sent: &[u8], sheet: &mut Sheet)
     requires some { 0 < length sent.now }
-    requires room { at + length (line_text (exchange sent.now 0)) ≤ length into.old }
-    ensures place { result ≡ at + length (line_text (exchange sent.now 0)) }
-    ensures buffer { into.new ≡ laid at (line_text (exchange sent.now 0)) into.old }
+    requires room { Room sheet.old (line_text (exchange sent.now 0)) }
+    ensures { Wrote sheet.old sheet.new (line_text (exchange sent.now 0)) }
 {
     let line = Frame {
         code: sent[0],
         rest: &sent[1..],
         back: 0,
     };
-    put_line(line, into, at)
+    put_line(line, sheet);
 }
 
-// Builds a frame, writes its line from `at` on, and gives the place after it.
-fn put_frame(operation: Operation, address: usize, data: &[u8], into: &mut [u8], at: usize) -> usize
+// Builds a frame and writes its line.
+fn put_frame(operation: Operation, address: usize, data: &[u8], sheet: &mut Sheet)
     requires short { length (built operation address «data».now) ≤ 68 }
-    requires room { at + length (line_text (exchange (built operation address «data».now) 0)) ≤ length into.old }
-    ensures place { result ≡ at + length (line_text (exchange (built operation address «data».now) 0)) }
-    ensures buffer { into.new ≡ laid at (line_text (exchange (built operation address «data».now) 0)) into.old }
+    requires room { Room sheet.old (line_text (exchange (built operation address «data».now) 0)) }
+    ensures { Wrote sheet.old sheet.new (line_text (exchange (built operation address «data».now) 0)) }
 {
     let mut frame = [0; LONGEST_FRAME];
     let Ok(n) = build(operation, address, data, &mut frame) else {
-        unreachable()
+        unreachable!()
     };
-    put_bytes(&frame[0..n], into, at)
+    put_bytes(&frame[0..n], sheet);
 }
 
-// Writes the two lines of a step from `at` on, and gives the place after them.
-fn put_step(step: &Step, data: &[u8], into: &mut [u8], at: usize) -> usize
+// Writes the two lines of a step.
+fn put_step(step: &Step, data: &[u8], sheet: &mut Sheet)
     requires listable { unlisted «data».now step.now ≡ None }
-    requires room { at + length (plan_text «data».now (step.now ∷ [])) ≤ length into.old }
-    ensures place { result ≡ at + length (plan_text «data».now (step.now ∷ [])) }
-    ensures buffer { into.new ≡ laid at (plan_text «data».now (step.now ∷ [])) into.old }
+    requires room { Room sheet.old (plan_text «data».now (step.now ∷ [])) }
+    ensures { Wrote sheet.old sheet.new (plan_text «data».now (step.now ∷ [])) }
 {
-    let place = put_frame(Operation::WriteEnable, 0, &[], into, at);
+    put_frame(Operation::WriteEnable, 0, &[], sheet);
     let sent = sent_by(step, data);
-    put_frame(operation_of(step.kind), step.address, sent, into, place)
+    put_frame(step.kind.into(), step.address, sent, sheet);
 }
 
-// Writes the text of a plan that fits at the start of the buffer, and gives its length.
-pub(crate) fn put_steps(steps: &[Step], data: &[u8], into: &mut [u8]) -> usize
+// Writes the text of a plan.
+pub(crate) fn put_steps(steps: &[Step], data: &[u8], sheet: &mut Sheet)
     requires listable { first_unlisted «data».now steps.now ≡ None }
-    requires room { length (plan_text «data».now steps.now) ≤ length into.old }
-    ensures place { result ≡ length (plan_text «data».now steps.now) }
-    ensures buffer { into.new ≡ laid 0 (plan_text «data».now steps.now) into.old }
+    requires room { Room sheet.old (plan_text «data».now steps.now) }
+    ensures { Wrote sheet.old sheet.new (plan_text «data».now steps.now) }
 {
-    let mut at = 0;
     for step in steps {
-        at = put_step(step, data, into, at);
+        put_step(step, data, sheet);
     }
-    at
 }

@@ -5,7 +5,7 @@ ghost use Rattle.listing.specs.Parts.{spot, part_of, spot_of, spots_of};
 ghost use Rattle.listing.specs.Scan.{scan, inside, pairs, closing, at_mark, refused, Sized, size_of, spots_by};
 ghost use Rattle.listing.specs.Promise.{Next};
 
-use crate::bytes::{byte_at, goes_on, pair};
+use crate::bytes::{goes_on, line_end, pair};
 use crate::extent::Extent;
 use crate::fault::ListingFault;
 use crate::item::{Item, Line, Placed};
@@ -49,13 +49,8 @@ impl<'a> Reader<'a> {
         ensures same { result ≡ refused self.now.line (inside 0 self.now.rest.now) }
         ensures within { IfOk result (λ x. Sized x (length self.now.rest.now)) }
     {
-        let rest = self.rest;
-        for (i, b) in rest.iter().enumerate() {
-            if *b == b'\n' {
-                return Ok(Extent::Note(i));
-            }
-        }
-        Err(self.stuck(rest.len()))
+        let end = line_end(self.rest).ok_or(self.stuck(self.rest.len()))?;
+        Ok(Extent::Note(end))
     }
 
     // Where the pairs at the start of the rest end.
@@ -65,13 +60,12 @@ impl<'a> Reader<'a> {
             (λ f. refused self.now.line (pairs 0 self.now.rest.now) ≡ Err f) }
     {
         let rest = self.rest;
+        // `at` is also the place that is told, so an iterator would have to count beside it.
         let mut at = 0;
         loop {
-            let Some(_) = pair(rest, at) else {
-                return Err(self.stuck(at));
-            };
+            pair(&rest[at..]).ok_or(self.stuck(at))?;
             at += 2;
-            if !goes_on(rest, at) {
+            if !goes_on(&rest[at..]) {
                 return Ok(at);
             }
             at += 1;
@@ -85,20 +79,18 @@ impl<'a> Reader<'a> {
         ensures within { IfOk result (λ x. Sized x (length self.now.rest.now)) }
     {
         let rest = self.rest;
-        if byte_at(rest, gap) != b' ' {
+        let Some(b' ') = rest.get(gap) else {
             return Err(self.stuck(gap));
-        }
-        let digits = gap + 1;
-        let Some(wanted) = pair(rest, digits) else {
-            return Err(self.stuck(digits));
         };
-        if wanted < LEAST_COUNT {
-            return Err(self.stuck(digits));
+        let digits = gap + 1;
+        match pair(&rest[digits..]) {
+            Some(LEAST_COUNT..) => {}
+            _ => return Err(self.stuck(digits)),
         }
         let end = digits + 2;
-        if byte_at(rest, end) != b'\n' {
+        let Some(b'\n') = rest.get(end) else {
             return Err(self.stuck(end));
-        }
+        };
         Ok(Extent::Counted(end))
     }
 
@@ -108,9 +100,9 @@ impl<'a> Reader<'a> {
         ensures within { IfOk result (λ x. Sized x (length self.now.rest.now)) }
     {
         let end = self.pairs_end()?;
-        match byte_at(self.rest, end) {
-            b'\n' => Ok(Extent::Frame(end)),
-            b' ' => self.count(end + 2),
+        match self.rest.get(end) {
+            Some(b'\n') => Ok(Extent::Frame(end)),
+            Some(b' ') => self.count(end + 2),
             _ => Err(self.stuck(end)),
         }
     }
@@ -120,10 +112,9 @@ impl<'a> Reader<'a> {
         ensures same { result ≡ refused self.now.line (scan self.now.rest.now) }
         ensures within { IfOk result (λ x. Sized x (length self.now.rest.now)) }
     {
-        if byte_at(self.rest, 0) == b';' {
-            self.note()
-        } else {
-            self.frame()
+        match self.rest.first() {
+            Some(b';') => self.note(),
+            _ => self.frame(),
         }
     }
 
@@ -165,7 +156,7 @@ impl<'a> Reader<'a> {
         ensures { Next self.old.line self.new.line self.old.rest.now self.new.rest.now result }
     {
         let rest = self.rest;
-        if rest.len() == 0 {
+        if rest.is_empty() {
             return Ok(None);
         }
         let extent = self.extent()?;

@@ -1,14 +1,15 @@
 // A listing written again without its notes.
-ghost use Rattle.std.specs.Prelude.{◌≡◌, ℕ, ◌+◌, ◌^◌, ◌<◌, ◌≤◌, length, MatchResult};
+ghost use Rattle.std.specs.Prelude.{◌≡◌, ◌^◌, ◌<◌, length, MatchResult};
 ghost use Rattle.listing.specs.Grammar.{Unambiguous};
 ghost use Rattle.listing.specs.Parts.{part_of, spots_of, count_of};
 ghost use Rattle.listing.specs.Promise.{Measured, Refuses, HasRoom, Copied, Rewrites};
-ghost use Rattle.listing.specs.Writing.{laid, held, frame_text, kept_of, kept_count};
+ghost use Rattle.listing.specs.Sheets.{Room, Wrote};
+ghost use Rattle.listing.specs.Writing.{held, frame_text, kept_of, kept_count};
 
 use crate::fault::ListingFault;
 use crate::item::{Item, Line, Placed};
-use crate::put::put;
 use crate::reader::Reader;
+use crate::sheet::Sheet;
 
 // The length of a count with the ` > ` before it, if there is one, and of the 0Ah that ends its line.
 fn count_len(count: Option<Placed>) -> usize
@@ -35,37 +36,33 @@ fn kept_len(line: Line) -> usize
     requires { length (kept_of (spots_of line)) < 2 ^ 64 }
     ensures { result ≡ length (kept_of (spots_of line.entry)) }
 {
-    let Some(pairs) = kept(line.first.item) else {
-        return 0;
-    };
-    pairs.len() + count_len(line.count)
+    match kept(line.first.item) {
+        Some(pairs) => pairs.len() + count_len(line.count),
+        None => 0,
+    }
 }
 
-// Writes a count, if there is one, and the 0Ah from `at` on, and gives the place after them.
-fn keep_count(count: Option<Placed>, into: &mut [u8], at: usize) -> usize
-    requires { at + length (kept_count (count_of count)) ≤ length into.old }
-    ensures place { result ≡ at + length (kept_count (count_of count.entry)) }
-    ensures buffer { into.new ≡ laid at (kept_count (count_of count.entry)) into.old }
+// Writes a count, if there is one, and the 0Ah.
+fn keep_count(count: Option<Placed>, sheet: &mut Sheet)
+    requires { Room sheet.old (kept_count (count_of count)) }
+    ensures { Wrote sheet.old sheet.new (kept_count (count_of count.entry)) }
 {
-    let Some(count) = count else {
-        return put(into, at, b"\n");
-    };
-    let digits = put(into, at, b" > ");
-    let end = put(into, digits, count.item.text());
-    put(into, end, b"\n")
+    if let Some(count) = count {
+        sheet.put(b" > ");
+        sheet.put(count.item.text());
+    }
+    sheet.put(b"\n");
 }
 
-// Writes what is kept of a line from `at` on, and gives the place after it.
-fn keep(line: Line, into: &mut [u8], at: usize) -> usize
-    requires { at + length (kept_of (spots_of line)) ≤ length into.old }
-    ensures place { result ≡ at + length (kept_of (spots_of line.entry)) }
-    ensures buffer { into.new ≡ laid at (kept_of (spots_of line.entry)) into.old }
+// Writes what is kept of a line.
+fn keep(line: Line, sheet: &mut Sheet)
+    requires { Room sheet.old (kept_of (spots_of line)) }
+    ensures { Wrote sheet.old sheet.new (kept_of (spots_of line.entry)) }
 {
-    let Some(pairs) = kept(line.first.item) else {
-        return at;
-    };
-    let end = put(into, at, pairs);
-    keep_count(line.count, into, end)
+    if let Some(pairs) = kept(line.first.item) {
+        sheet.put(pairs);
+        keep_count(line.count, sheet);
+    }
 }
 
 // The length of a listing without its notes.
@@ -87,15 +84,9 @@ fn copy_kept(text: &[u8], into: &mut [u8])
     ensures { Copied text.now into.old into.new }
 {
     let mut reader = Reader::new(text);
-    let mut at = 0;
-    loop {
-        let Ok(next) = reader.next_line() else {
-            return;
-        };
-        let Some(line) = next else {
-            return;
-        };
-        at = keep(line, into, at);
+    let mut sheet = Sheet::new(into);
+    while let Ok(Some(line)) = reader.next_line() {
+        keep(line, &mut sheet);
     }
 }
 

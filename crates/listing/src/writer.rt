@@ -1,13 +1,14 @@
 // The line of a frame.
-ghost use Rattle.std.specs.Prelude.{◌≡◌, ℕ, ◌+◌, ◌<◌, ◌≤◌, length};
+ghost use Rattle.std.specs.Prelude.{◌≡◌, ℕ, ◌<◌, length, slice_index};
+ghost use Rattle.listing.specs.Sheets.{Room, Wrote};
 ghost use Rattle.listing.specs.Values.{fitted, over};
-ghost use Rattle.listing.specs.Writing.{laid, line_text, exchange_of, ReadsAlone, ReadsBack};
+ghost use Rattle.listing.specs.Writing.{line_text, exchange_of, ReadsAlone, ReadsBack};
 
-use crate::bytes::are_bytes;
 use crate::fault::ListingFault;
-use crate::put::{put, put_back, put_pair, put_spaced};
+use crate::sheet::{Sheet, spaced_len};
 
-// A frame to be listed: its bytes, at least one, and how many bytes are wanted back (0: no count).
+// A frame to be listed: its bytes, at least one, and how many bytes are wanted back. None is the number 0, and no sign
+// for a missing number: an Option would say the same in two ways.
 #[derive(Clone, Copy)]
 pub struct Frame<'a> {
     pub code: u8,
@@ -18,23 +19,23 @@ pub struct Frame<'a> {
 impl Frame<'_> {
     // The length of its line, 0Ah included. A line can be longer than any buffer.
     fn line_len(&self) -> u128
-        ensures { result ≡ length (line_text (exchange_of self.now)) }
+        ensures exact { result ≡ length (line_text (exchange_of self.now)) }
+        ensures bytes { (i : ℕ) → slice_index self.now.rest.now i < 256 }
     {
-        let pairs = 3 * (1 + self.rest.len() as u128);
+        let pairs = 3 + spaced_len(self.rest);
         if self.back == 0 { pairs } else { pairs + 5 }
     }
 }
 
-// Writes the line of a frame, 0Ah included, from `at` on, and gives the place after it.
-pub(crate) fn put_line(frame: Frame, into: &mut [u8], at: usize) -> usize
-    requires { at + length (line_text (exchange_of frame)) ≤ length into.old }
-    ensures place { result ≡ at + length (line_text (exchange_of frame.entry)) }
-    ensures buffer { into.new ≡ laid at (line_text (exchange_of frame.entry)) into.old }
+// Writes the line of a frame, 0Ah included.
+pub(crate) fn put_line(frame: Frame, sheet: &mut Sheet)
+    requires { Room sheet.old (line_text (exchange_of frame)) }
+    ensures { Wrote sheet.old sheet.new (line_text (exchange_of frame.entry)) }
 {
-    let at = put_pair(into, at, frame.code);
-    let at = put_spaced(into, at, frame.rest);
-    let at = put_back(into, at, frame.back);
-    put(into, at, b"\n")
+    sheet.put_pair(frame.code);
+    sheet.put_spaced(frame.rest);
+    sheet.put_back(frame.back);
+    sheet.put(b"\n");
 }
 
 // Writes the line of a frame, 0Ah included, at the start of the buffer, and gives its length.
@@ -45,10 +46,11 @@ pub fn write_frame(frame: Frame, into: &mut [u8]) -> Result<usize, ListingFault>
     ensures reads { ReadsBack (exchange_of frame.entry) }
     ensures alone { ReadsAlone (exchange_of frame.entry) }
 {
-    are_bytes(frame.rest);
     let needed = frame.line_len();
     if (into.len() as u128) < needed {
         return Err(ListingFault::TextShort { needed });
     }
-    Ok(put_line(frame, into, 0))
+    let mut sheet = Sheet::new(into);
+    put_line(frame, &mut sheet);
+    Ok(sheet.at)
 }

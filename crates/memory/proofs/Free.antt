@@ -2,8 +2,9 @@
 use Rattle.std.proofs.Common.{◌≡◌, ℕ, zero, suc, ◌-◌, ◌<◌, Bool, true, false, cond, not, eqb, sym, refl, ap, ◌∙◌, ⊎_elim, arith}
 use lib.Bits.{bit_and}
 use Rattle.std.proofs.lemmas.Nat.{pow_pos}
-use Rattle.std.proofs.lemmas.Bool.{cases_Bool, cases_eq, and_right, and_from, and_left, and_parts, eqb-true, not-true, not-false, not_from_true, not_from_false}
+use Rattle.std.proofs.lemmas.Bool.{cases_Bool, cases_eq, and_right, and_from, and_left, eqb-true, not-false, not_from_true, not_from_false}
 use Rattle.std.proofs.lemmas.Bool.Decides.{nat_tests}
+use Rattle.memory.proofs.Cycles.{free_at}
 use Rattle.memory.specs.Protection.{block_protect, protected_count, protects, free}
 
 free_all : (p : ℕ → Bool) (n : ℕ) → ((k : ℕ) → k < n → p k ≡ false) → free p n ≡ true
@@ -15,13 +16,6 @@ free_hit p zero k h e = absurd (omega arith)
 free_hit p (suc n) k h e = ⊎_elim
     (λ t. and_left _ _ (not_from_true _ (ap p (sym t) ∙ e)))
     (λ d. and_right (not (p n)) _ (free_hit p n k (omega arith) e))
-    (cases_eq k n)
-
-free_at : (p : ℕ → Bool) (n k : ℕ) → free p n ≡ true → k < n → p k ≡ false
-free_at p zero k f h = absurd (omega arith)
-free_at p (suc n) k f h = ⊎_elim
-    (λ t. ap p t ∙ not-true _ (and_parts _ _ f).0)
-    (λ d. free_at p n k (and_parts _ _ f).1 (omega arith))
     (cases_eq k n)
 
 -- the four BP bits, looked at as one mask and as the two fields, agree at every byte

@@ -1,11 +1,9 @@
 -- What holds of every known chip.
-use Rattle.std.proofs.Common.{◌≡◌, ℕ, Bool, true, false, cond, ◌&&◌, eqb, ◌⊎◌, List, [], ◌∷◌, is_some, Some, None, Option, sym, refl, ◌∙◌, inl, inr}
+use Rattle.std.proofs.Common.{◌≡◌, ℕ, Bool, true, false, ◌&&◌, eqb, ◌⊎◌, List, [], ◌∷◌, is_some, Some, None, Option, sym, refl, ◌∙◌, inl, inr}
 use Rattle.std.proofs.lemmas.Bool.{cases_Bool, and_parts, cond-true, cond-false}
 use Rattle.memory.specs.declared.model.Model.{Model}
-use Rattle.memory.specs.declared.image.ImageFault.TheVariants.{Length}
-use Rattle.memory.specs.Shape.{size}
-use Rattle.memory.specs.Image.{in_range, unmade}
-use Rattle.memory.specs.Models.{models, lookup, model_shape, shape_or, shape_for}
+use Rattle.memory.specs.Image.{in_range}
+use Rattle.memory.specs.Models.{models, lookup, shape_or, shape_for}
 
 abbrev pub each : (Model → Bool) → List Model → Bool
 each test [] = true
@@ -26,11 +24,6 @@ found_passes test (x ∷ ms) c m t e = go (cases_Bool (eqb x.capacity c)) (λ f.
 pub models_ranged : (c : ℕ) (m : Model) → lookup models c ≡ Some m → in_range m.geometry.sectors m.geometry.pages ≡ true
 unfolding models
 models_ranged c m e = found_passes (λ x. in_range x.geometry.sectors x.geometry.pages) models c m refl e
-
--- so an image of a known chip fails by its length alone
-pub models-unmade : (c : ℕ) (m : Model) (n : ℕ) → lookup models c ≡ Some m
-    → unmade m.geometry.sectors m.geometry.pages n ≡ cond (eqb n (size (model_shape m))) None (Some Length)
-models-unmade c m n e = cond-true _ _ _ (models_ranged c m e)
 
 -- whatever the capacity byte, a page is 64 bytes
 bytes-or : (o : Option Model) → (shape_or o).bytes ≡ 64

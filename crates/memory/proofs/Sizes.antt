@@ -2,9 +2,6 @@
 use Rattle.std.proofs.Common.{◌≡◌, ℕ, ◌+◌, ◌*◌, ◌/◌, ◌<◌, ◌≤◌, add-mul, arith}
 use Rattle.std.proofs.lemmas.Nat.{div_below, mul-le}
 
-pub product_some : (s p : ℕ) → 0 < s → 0 < p → 0 < s * p
-product_some s p h k = omega (arith, mul-le 1 1 s p h k)
-
 pub product_most : (s p : ℕ) → s ≤ 128 → p ≤ 2048 → s * p ≤ 262144
 product_most s p h k = mul-le s p 128 2048 h k
 

@@ -32,18 +32,12 @@ fn left(kind: Kind, old: u8, sent: u8) -> u8
     }
 }
 
-fn nothing_sent() -> Cover
-    ensures { result ≡ cover 64 0 [] }
-{
-    [None; PAGE_BYTES]
-}
-
 // The data come round at the page's end, and a later byte takes an earlier one's place.
 fn lay(at: usize, sent: &[u8]) -> Cover
     requires { at < 64 }
     ensures { result ≡ cover 64 at sent.now }
 {
-    let mut places = nothing_sent();
+    let mut places = [None; PAGE_BYTES];
     for (i, byte) in sent.iter().enumerate() {
         places[(at + i) % PAGE_BYTES] = Some(*byte);
     }

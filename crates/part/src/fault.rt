@@ -15,13 +15,13 @@ pub enum PartFault {
     NotBlank(usize),
 }
 
-// Why a plain image cannot be made.
+// Why a plain image cannot be made. A bench chip has a `Making` of its own: another layer tells it, and it has a case more.
 #[derive(Clone, Copy, PartialEq, Eq, Debug)]
 pub enum Making {
     // not 1 to 128 sectors of 1 to 2,048 pages
-    Geometry,
+    Geometry = 1,
     // the bytes are not those of the sectors
-    Length,
+    Length = 2,
     // bit 7 is clear, or bit 1 or 0 is set
-    Status,
+    Status = 3,
 }

@@ -1,7 +1,7 @@
 // A part's refusal as it is reported.
-ghost use Rattle.part.specs.Rows.{row};
+ghost use Rattle.part.specs.Rows.{making_row, row};
 
-use crate::fault::PartFault;
+use crate::fault::{Making, PartFault};
 use memory::report::{Layer, Report, Reported};
 
 impl Reported for PartFault {
@@ -16,5 +16,13 @@ impl Reported for PartFault {
             PartFault::Protected(address) => Report::one(Layer::Part, 4, address),
             PartFault::NotBlank(address) => Report::one(Layer::Part, 5, address),
         }
+    }
+}
+
+impl Reported for Making {
+    ghost row = { making_row };
+
+    fn report(self) -> Report {
+        Report::one(Layer::Part, 13, self as usize)
     }
 }

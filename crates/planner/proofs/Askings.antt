@@ -1,5 +1,5 @@
 -- How many bytes are asked for, added up.
-use Rattle.std.proofs.Common.{◌≡◌, ℕ, zero, suc, ◌+◌, ◌*◌, ◌≤◌, Bool, true, false, cond, ◌⊎◌, List, sym, refl, ap, ◌∙◌, subst, inl, inr, suc-mul, add-one, arith}
+use Rattle.std.proofs.Common.{◌≡◌, ℕ, zero, suc, ◌+◌, ◌-◌, ◌*◌, ◌≤◌, Bool, true, false, cond, ◌⊎◌, List, sym, refl, ap, ◌∙◌, subst, inl, inr, suc-mul, add-one, arith}
 use Rattle.std.proofs.lemmas.Bool.{cases_eq, true≢false}
 use Rattle.memory.specs.Protection.{free}
 use Rattle.part.specs.Meaning.{Meaning, protected_at}
@@ -15,6 +15,20 @@ module _ (address : ℕ) (bytes : List ℕ) (q : ℕ) where
 
   pub off_more : (n : ℕ) → bytes_off address bytes q (n + 1) ≡ bytes_off address bytes q n + cond (touched address bytes (q + n)) 0 64
   off_more n = ap (bytes_off address bytes q) (add-one n)
+
+  pub on_next : (p : ℕ) → q ≤ p → bytes_on address bytes q (p + 1 - q) ≡ bytes_on address bytes q (p - q) + cond (touched address bytes p) 64 0
+  on_next p h =
+      let more : p + 1 - q ≡ p - q + 1 = omega arith in
+      let here : q + (p - q) ≡ p = omega arith in
+      ap (bytes_on address bytes q) more
+      ∙ (on_more (p - q) ∙ ap (λ x. bytes_on address bytes q (p - q) + cond (touched address bytes x) 64 0) here)
+
+  pub off_next : (p : ℕ) → q ≤ p → bytes_off address bytes q (p + 1 - q) ≡ bytes_off address bytes q (p - q) + cond (touched address bytes p) 0 64
+  off_next p h =
+      let more : p + 1 - q ≡ p - q + 1 = omega arith in
+      let here : q + (p - q) ≡ p = omega arith in
+      ap (bytes_off address bytes q) more
+      ∙ (off_more (p - q) ∙ ap (λ x. bytes_off address bytes q (p - q) + cond (touched address bytes x) 0 64) here)
 
   either : (t : Bool) → cond t 64 0 + cond t 0 64 ≡ 64
   either true = refl

@@ -1,13 +1,11 @@
 -- The lowest changed byte of pages, and the lowest barred one of sectors.
-use Rattle.std.proofs.Common.{◌≡◌, ℕ, ◌+◌, ◌-◌, ◌*◌, ◌<◌, ◌≤◌, Bool, true, false, ltb, List, get_or, Some, None, Ok, Option, Result, sym, ap, ◌∙◌, subst, ⊎_elim, mul_assoc, add-mul, arith}
-use Rattle.std.proofs.lemmas.Bool.{both_ways, cases_eq, cases_lt, cond-true, lt-ltb}
+use Rattle.std.proofs.Common.{◌≡◌, ℕ, ◌+◌, ◌-◌, ◌*◌, ◌<◌, ◌≤◌, true, false, List, get_or, Some, None, Option, sym, ap, ◌∙◌, subst, ⊎_elim, mul_assoc, add-mul, arith}
+use Rattle.std.proofs.lemmas.Bool.{both_ways, cases_eq, cases_lt}
 use Rattle.memory.specs.Shape.{sector_at}
 use Rattle.memory.specs.Page.{page}
 use Rattle.memory.proofs.Blocks.{apart, below_end, get_or-block}
 use Rattle.memory.proofs.Pages.{Real, in_its_sector}
-use Rattle.part.specs.declared.fault.PartFault.{PartFault}
 use Rattle.part.specs.Meaning.{Meaning, Sound, protected_at}
-use Rattle.part.specs.Verdict.{protection}
 use Rattle.least.specs.Barred.{Barred, LowestIs}
 use Rattle.planner.specs.Changes.{FirstIn}
 use Rattle.least.specs.Window.{FirstChange}
@@ -66,13 +64,6 @@ first_later from mid to end image wanted p i e h k =
     let a = k.0 in
     let b = k.1 in
     (omega arith, omega arith, k.2, λ a l u. ⊎_elim (λ v. h a l v) (λ v. k.3 a v u) (cases_lt a mid))
-
--- what a part says of a sector
-pub protected_is :
-    (m : Meaning) (k : ℕ) (b : Bool) (r : Result Bool PartFault) → k < m.shape.sectors → r ≡ protection m k → r ≡ Ok b
-    → protected_at m k ≡ b
-protected_is m k b r h e t =
-    let c : protection m k ≡ Ok (protected_at m k) = cond-true (ltb k m.shape.sectors) _ _ (lt-ltb _ _ h) in cc
 
 module _ (m : Meaning) (S : Sound m) (wanted : List ℕ) (k p : ℕ) (e : p ≡ m.shape.pages) where
   real : Real m.shape

@@ -20,9 +20,11 @@ use Rattle.least.specs.Plan.{keep_page, erased_page, least_cost, keep_cycles, pr
 use Rattle.least.specs.Steps.{steps_of, data_of}
 use Rattle.least.specs.Writes.{planned, refused, past_the_end, steps_short, data_short, unless_barred, unless_short, plan_write}
 use Rattle.planner.specs.Looking.{Fitting, wanted}
-use Rattle.planner.specs.Choice.{Chosen}
+use Rattle.planner.specs.declared.chosen.Erasure.{Erasure}
+use Rattle.planner.specs.declared.chosen.Erasure.TheVariants.{All, Sectors}
+use Rattle.planner.specs.Choice.{Chosen, Erased}
 use Rattle.planner.specs.Lists.{bulk_list, sector_list, sectors_list}
-use Rattle.planner.specs.Sending.{Sent}
+use Rattle.planner.specs.Sending.{Laid}
 use Rattle.planner.specs.Call.{Handed, plan_call, plan_inside, plan_list, polls_due}
 use Rattle.least.proofs.Laws.{fewest_lawful}
 use Rattle.least.proofs.Price.{plan-spent}
@@ -75,10 +77,11 @@ module _ (m : Meaning) (S : Sound m) (address : ℕ) (bytes : List ℕ) where
   plan_at_lem = ap plan_at (sym S.page)
 
   module _ (c : Choice) (chosen : Chosen m address bytes c) where
-    sectors_list_lem : sectors_list m address bytes c.erased ≡ by_sectors_at 64
-    sectors_list_lem =
+    sectors_list_lem :
+        (marks : List Bool) → Erased m address bytes (Sectors marks) → sectors_list m address bytes marks ≡ by_sectors_at 64
+    sectors_list_lem marks e =
         list_same m.shape.sectors _ _
-        (λ k l. ap (λ b. sector_list m address bytes b k) (chosen.marks k l) ∙ swapped (fewest.leq (over_sector fewest m.shape (keep_at 64) k) (erase_cost fewest m.shape (erased_at 64) k)) _ _)
+        (λ k l. ap (λ b. sector_list m address bytes b k) (e.1 k l) ∙ swapped (fewest.leq (over_sector fewest m.shape (keep_at 64) k) (erase_cost fewest m.shape (erased_at 64) k)) _ _)
 
     bulk_list_lem : bulk_list m address bytes ≡ bulk_at 64
     bulk_list_lem =
@@ -86,16 +89,21 @@ module _ (m : Meaning) (S : Sound m) (address : ℕ) (bytes : List ℕ) where
         (list_same (m.shape.sectors * m.shape.pages) _ (presets 64 (wanted m address bytes)) (λ j l. ap (presets 64 (wanted m address bytes)) (zero-add j))
         ∙ sym (list_flat (presets 64 (wanted m address bytes)) m.shape.sectors m.shape.pages))
 
-    pub bulk_is : c.bulk ≡ true → bulk_list m address bytes ≡ plan_list m address bytes
+    erased_by : (x : Erasure) → c.erasure ≡ x → Erased m address bytes x
+    erased_by x e = subst (λ y. Erased m address bytes y) e chosen.erasure
+
+    pub bulk_is : c.erasure ≡ All → bulk_list m address bytes ≡ plan_list m address bytes
     bulk_is e =
         bulk_list_lem
-        ∙ (both (free (protected_at m) m.shape.sectors) (fewest.leq (sectors_cost fewest m.shape (keep_at 64) (erased_at 64)) (bulk_cost fewest m.shape (erased_at 64))) (by_sectors_at 64) (bulk_at 64) (sym chosen.bulk ∙ e)
+        ∙ (both (free (protected_at m) m.shape.sectors) (fewest.leq (sectors_cost fewest m.shape (keep_at 64) (erased_at 64)) (bulk_cost fewest m.shape (erased_at 64))) (by_sectors_at 64) (bulk_at 64) (erased_by All e)
         ∙ plan_at_lem)
 
-    pub sectors_are : c.bulk ≡ false → sectors_list m address bytes c.erased ≡ plan_list m address bytes
-    sectors_are e =
-        sectors_list_lem
-        ∙ (unless_both (free (protected_at m) m.shape.sectors) (fewest.leq (sectors_cost fewest m.shape (keep_at 64) (erased_at 64)) (bulk_cost fewest m.shape (erased_at 64))) (by_sectors_at 64) (bulk_at 64) (sym chosen.bulk ∙ e)
+    pub sectors_are :
+        (marks : List Bool) → c.erasure ≡ Sectors marks → sectors_list m address bytes marks ≡ plan_list m address bytes
+    sectors_are marks e =
+        let x = erased_by (Sectors marks) e in
+        sectors_list_lem marks x
+        ∙ (unless_both (free (protected_at m) m.shape.sectors) (fewest.leq (sectors_cost fewest m.shape (keep_at 64) (erased_at 64)) (bulk_cost fewest m.shape (erased_at 64))) (by_sectors_at 64) (bulk_at 64) x.0
         ∙ plan_at_lem)
 
     pub cost_is : c.cost ≡ least_cost fewest m.shape (protected_at m) m.image (wanted m address bytes)
@@ -204,13 +212,12 @@ sets_all front n xs e f =
     sets-eq xs front 0 (omega arith) ∙ (ap (λ y. xs ++ y) (drop_all (0 + length xs) front (omega arith)) ∙ append-nil xs)
 
 pub put_all :
-    (l : List Cycle) (steps steps' : List Step) (sent sent' : List ℕ) (at : ℕ × ℕ) (n d : ℕ) → length steps ≡ n → length sent ≡ d
-    → length (steps_of l) ≡ n → length (data_of l) ≡ d → Sent l steps steps' sent sent' (0, 0) at
-    → (steps' ≡ steps_of l) × (sent' ≡ data_of l)
-put_all l steps steps' sent sent' at n d e f u v h =
+    (l : List Cycle) (steps steps' : List Step) (sent sent' : List ℕ) (n d : ℕ) → length steps ≡ n → length sent ≡ d
+    → length (steps_of l) ≡ n → length (data_of l) ≡ d → Laid l steps steps' sent sent' → (steps' ≡ steps_of l) × (sent' ≡ data_of l)
+put_all l steps steps' sent sent' n d e f u v h =
     let k = length-steps 0 l in
     let p = h (omega arith) (omega arith) in
-    (p.listed ∙ sets_all steps n (steps_of l) e u, p.laid ∙ sets_all sent d (data_of l) f v)
+    (p.0 ∙ sets_all steps n (steps_of l) e u, p.1 ∙ sets_all sent d (data_of l) f v)
 
 -- the call: the range, polls due, and then the planning of a write
 module _

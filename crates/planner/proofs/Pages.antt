@@ -1,56 +1,40 @@
 -- Loops over the bytes of a page.
-use Rattle.std.proofs.Common.{◌≡◌, ℕ, suc, ◌+◌, ◌-◌, ◌%◌, ◌<◌, ◌≤◌, Bool, true, false, ◌&&◌, eqb, List, [], ◌∷◌, length, get_or, drop, set, sym, ap, ◌∙◌, ap₂, arith}
+use Rattle.std.proofs.Common.{◌≡◌, ℕ, zero, suc, ◌+◌, ◌%◌, ◌≤◌, Bool, ◌&&◌, eqb, List, [], ◌∷◌, ◌++◌, length, get_or, take, drop, sym, refl, ap, ◌∙◌, add-zero, add-one, arith}
 use lib.Bits.{bit_and}
-use lib.Seq.{sets}
-use Rattle.std.proofs.lemmas.List.{drop_more, drop_all}
-use Rattle.std.proofs.lemmas.Bool.{eq-eqb, ne_eqb}
+use lib.Seq.{sets, sets-eq}
+use Rattle.std.proofs.lemmas.List.{append_assoc, drop-drop}
+use Rattle.std.specs.List.{list_all, zip}
 use Rattle.least.specs.Plan.{lowers, bytes_from}
+use Rattle.least.proofs.Runs.{length-bytes_from}
 
-module _ (old new : List ℕ) (i : ℕ) where
-  lowers_at :
-      i < length old → i < length new
-      → lowers (drop i old) (drop i new)
-      ≡ (eqb (bit_and (get_or old i 0) (get_or new i 0)) (get_or new i 0) && lowers (drop (i + 1) old) (drop (i + 1) new))
-  lowers_at h k = ap₂ lowers (drop_more old i 0 h) (drop_more new i 0 k)
+-- no bit rises at one place, and at all places that both have
+abbrev pub lowers_test : ℕ × ℕ → Bool
+lowers_test p = eqb (bit_and p.0 p.1) p.1
 
-  pub lowers_rises :
-      i < length old → i < length new → (bit_and (get_or old i 0) (get_or new i 0) ≡ get_or new i 0 → ⊥)
-      → lowers (drop i old) (drop i new) ≡ false
-  lowers_rises h k d =
-      lowers_at h k ∙ ap (λ (b : Bool). b && lowers (drop (i + 1) old) (drop (i + 1) new)) (ne_eqb _ _ d)
+pub lowers_all : (old new : List ℕ) → lowers old new ≡ list_all lowers_test (zip old new)
+lowers_all [] new = refl
+lowers_all (x ∷ old) [] = refl
+lowers_all (x ∷ old) (y ∷ new) = ap (λ (b : Bool). eqb (bit_and x y) y && b) (lowers_all old new)
 
-  pub lowers_more :
-      i < length old → i < length new → bit_and (get_or old i 0) (get_or new i 0) ≡ get_or new i 0
-      → lowers (drop i old) (drop i new) ≡ lowers (drop (i + 1) old) (drop (i + 1) new)
-  lowers_more h k e =
-      lowers_at h k ∙ ap (λ (b : Bool). b && lowers (drop (i + 1) old) (drop (i + 1) new)) (eq-eqb _ _ e)
-
-  pub lowers-all : length old ≤ i → lowers (drop i old) (drop i new) ≡ true
-  lowers-all h = ap (λ x. lowers x (drop i new)) (drop_all i old h)
-
--- one more byte of a window
-pub bytes_none : (z : ℕ) (new : List ℕ) (a n : ℕ) → n ≡ 0 → bytes_from z new a n ≡ []
-bytes_none z new a n e = ap (λ x. bytes_from z new a x) e
-
-pub bytes_more : (z : ℕ) (new : List ℕ) (a n m : ℕ) → n ≡ suc m → bytes_from z new a n ≡ get_or new (a % z) 0 ∷ bytes_from z new (suc a) m
-bytes_more z new a n m e = ap (λ x. bytes_from z new a x) e
-
--- and put where it goes
-pub sets_more :
-    (z : ℕ) (new sent : List ℕ) (a at i n v : ℕ) → i < n → v ≡ get_or new ((a + i) % z) 0
-    → sets sent (at + i) (bytes_from z new (a + i) (n - i))
-    ≡ sets (set sent (at + i) v) (at + (i + 1)) (bytes_from z new (a + (i + 1)) (n - (i + 1)))
-sets_more z new sent a at i n v h e =
-    ap (λ x. sets sent (at + i) x) (bytes_more z new (a + i) (n - i) (n - (i + 1)) (omega arith))
-    ∙ (ap (λ x. sets (set sent (at + i) x) (suc (at + i)) (bytes_from z new (suc (a + i)) (n - (i + 1)))) (sym e)
-    ∙ ap₂ (λ x y. sets (set sent (at + i) v) x (bytes_from z new y (n - (i + 1)))) next next')
+-- one more byte of a run
+pub bytes_more : (z : ℕ) (new : List ℕ) (a n : ℕ) → bytes_from z new a (n + 1) ≡ bytes_from z new a n ++ get_or new ((a + n) % z) 0 ∷ []
+bytes_more z new a zero = ap (λ x. get_or new (x % z) 0 ∷ []) (sym (add-zero a))
+bytes_more z new a (suc n) =
+    ap (λ x. bytes_from z new a x) (add-one (suc n))
+    ∙ (ap (λ l. get_or new (a % z) 0 ∷ l) (ap (λ x. bytes_from z new (suc a) x) (sym (add-one n)) ∙ bytes_more z new (suc a) n)
+    ∙ ap (λ x. get_or new (a % z) 0 ∷ (bytes_from z new (suc a) n ++ get_or new (x % z) 0 ∷ [])) next)
   where
-    next : suc (at + i) ≡ at + (i + 1)
+    next : suc a + n ≡ a + suc n
     next = omega arith
 
-    next' : suc (a + i) ≡ a + (i + 1)
-    next' = omega arith
-
-pub sets_none :
-    (z : ℕ) (new sent : List ℕ) (a at i n : ℕ) → n ≤ i → sets sent (at + i) (bytes_from z new (a + i) (n - i)) ≡ sent
-sets_none z new sent a at i n h = ap (λ x. sets sent (at + i) x) (bytes_none z new (a + i) (n - i) (omega arith))
+-- and the run put in the middle of a buffer, as the checker has it
+pub put_run :
+    (z : ℕ) (new sent ran : List ℕ) (a at n k : ℕ) → at + n ≤ length sent → k ≡ n → ran ≡ bytes_from z new a n
+    → take at sent ++ (ran ++ drop k (drop at sent)) ≡ sets sent at (bytes_from z new a n)
+put_run z new sent ran a at n k h e f =
+    ap (λ x. take at sent ++ (x ++ drop k (drop at sent))) f
+    ∙ (ap (λ x. take at sent ++ (bytes_from z new a n ++ x)) (drop-drop k at sent ∙ ap (λ x. drop (at + x) sent) (e ∙ sym long))
+    ∙ (sym (append_assoc (take at sent) _ _) ∙ sym (sets-eq (bytes_from z new a n) sent at (omega (arith, long)))))
+  where
+    long : length (bytes_from z new a n) ≡ n
+    long = length-bytes_from z new a n

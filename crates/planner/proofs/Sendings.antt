@@ -1,15 +1,16 @@
--- Cycles put into a step list and a data buffer, one list after another.
-use Rattle.std.proofs.Common.{◌≡◌, ℕ, suc, ◌+◌, ◌*◌, ◌<◌, ◌≤◌, true, ◌⊎◌, List, [], ◌∷◌, ◌++◌, length, set, Some, sym, refl, ap, ◌∙◌, ap₂, inl, inr, add-zero, arith, length-append}
+-- Cycles put on a sheet, one list after another.
+use Rattle.std.proofs.Common.{◌≡◌, ℕ, suc, ◌+◌, ◌*◌, ◌<◌, ◌≤◌, true, ◌⊎◌, List, [], ◌∷◌, ◌++◌, length, set, Some, Option, sym, refl, ap, ◌∙◌, subst, inl, inr, add-zero, arith, length-append}
+use Rattle.std.specs.Prelude.{⊤}
 use lib.Seq.{sets, length-sets}
 use Rattle.std.proofs.lemmas.List.{append_assoc, append-nil}
 use Rattle.std.proofs.lemmas.Bool.{false≢true}
 use Rattle.memory.specs.declared.kind.Kind.{Kind}
 use Rattle.memory.specs.declared.kind.Kind.TheVariants.{Program, Alter, Preset, SectorErase, BulkErase}
 use Rattle.memory.specs.Cycle.{Cycle, cycle_of}
-use Rattle.least.specs.declared.step.Step.{Step}
 use Rattle.least.specs.Plan.{bytes_from, sending}
 use Rattle.least.specs.Steps.{kind_of, address_of, sent_by, steps_from, data_of}
-use Rattle.planner.specs.Sending.{Sent, of_page}
+use Rattle.planner.specs.declared.sheet.Sheet.{Sheet}
+use Rattle.planner.specs.Sending.{Put, Sent, of_page}
 use Rattle.least.proofs.Runs.{length-bytes_from}
 
 pub sets_append :
@@ -32,42 +33,60 @@ pub length-steps : (at : ℕ) (l : List Cycle) → length (steps_from at l) ≡ 
 length-steps at [] = refl
 length-steps at (c ∷ l) = ap suc (length-steps (at + length (sent_by c)) l)
 
-pub sent_none : (steps : List Step) (sent : List ℕ) (at : ℕ × ℕ) → Sent [] steps steps sent sent at at
-sent_none steps sent at h k =
-    record { listed = refl; laid = refl; moved = ap₂ (λ x y. (x, y)) (sym (add-zero at.0)) (sym (add-zero at.1)) }
+pub sent_none : (known : Type 0) (a : Sheet) → Sent known [] a a
+sent_none known a =
+    record {
+      steps = refl;
+      bytes = refl;
+      put = λ _ _ _. record { listed = refl; laid = refl; used = sym (add-zero a.used); sent = sym (add-zero a.sent) };
+    }
 
--- with no room for a step, nothing was to be put
-pub sent_full :
-    (l : List Cycle) (steps : List Step) (sent : List ℕ) (at : ℕ × ℕ) → length steps ≤ at.0 → Sent l steps steps sent sent at at
-sent_full [] steps sent at h room room' = sent_none steps sent at room room'
-sent_full (c ∷ l) steps sent at h room room' = absurd (omega arith)
+-- what is known may say more, and tell which cycles they are
+pub sent_as :
+    (known known' : Type 0) (l l' : List Cycle) (a b : Sheet) → (known → known') → (known → l ≡ l') → Sent known' l a b
+    → Sent known l' a b
+sent_as known known' l l' a b f e p =
+    record {
+      steps = p.steps;
+      bytes = p.bytes;
+      put =
+          λ h.
+          subst (λ x. a.used + length x ≤ length a.steps.now → a.sent + length (data_of x) ≤ length a.data.now → Put x a b) (e h)
+          (p.put (f h));
+    }
 
 pub sent_join :
-    (l k : List Cycle) (steps steps' steps'' : List Step) (sent sent' sent'' : List ℕ) (at at' at'' : ℕ × ℕ)
-    → Sent l steps steps' sent sent' at at' → Sent k steps' steps'' sent' sent'' at' at''
-    → Sent (l ++ k) steps steps'' sent sent'' at at''
-sent_join l k steps steps' steps'' sent sent' sent'' at at' at'' p q room room' =
-    let n = length-append l k in
-    let d = ap length (data_join l k) ∙ length-append (data_of l) (data_of k) in
-    let a = p (omega arith) (omega arith) in
-    let x : at'.0 ≡ at.0 + length l = ap (λ y. y.0) a.moved in
-    let y : at'.1 ≡ at.1 + length (data_of l) = ap (λ y. y.1) a.moved in
-    let u : length steps' ≡ length steps = ap length a.listed ∙ length-sets steps at.0 (steps_from at.1 l) in
-    let v : length sent' ≡ length sent = ap length a.laid ∙ length-sets sent at.1 (data_of l) in
-    let b = q (omega arith) (omega arith) in
-    let x'' : at''.0 ≡ at.0 + length (l ++ k) = ap (λ y. y.0) b.moved ∙ omega arith in
-    let y'' : at''.1 ≡ at.1 + length (data_of (l ++ k)) = ap (λ y. y.1) b.moved ∙ omega arith in
+    (known known' : Type 0) (l k : List Cycle) (a b c : Sheet) → Sent known l a b → (known → known') → Sent known' k b c
+    → Sent known (l ++ k) a c
+sent_join known known' l k a b c p f q =
     record {
-      listed =
-          b.listed
-          ∙ (ap (λ s. sets s at'.0 (steps_from at'.1 k)) a.listed
-          ∙ (sets_append steps at.0 (steps_from at.1 l) (steps_from at'.1 k) at'.0 (omega (arith, length-steps at.1 l))
-          ∙ ap (λ s. sets steps at.0 s) (sym (steps_join at.1 l k at'.1 y))));
-      laid =
-          b.laid
-          ∙ (ap (λ s. sets s at'.1 (data_of k)) a.laid
-          ∙ (sets_append sent at.1 (data_of l) (data_of k) at'.1 y ∙ ap (λ s. sets sent at.1 s) (sym (data_join l k))));
-      moved = ap₂ (λ i j. (i, j)) x'' y'';
+      steps = q.steps ∙ p.steps;
+      bytes = q.bytes ∙ p.bytes;
+      put =
+          λ h room room'.
+          let n = length-append l k in
+          let d = ap length (data_join l k) ∙ length-append (data_of l) (data_of k) in
+          let x = p.put h (omega arith) (omega arith) in
+          let u : length b.steps.now ≡ length a.steps.now = ap length x.listed ∙ length-sets a.steps.now a.used (steps_from a.sent l) in
+          let v : length b.data.now ≡ length a.data.now = ap length x.laid ∙ length-sets a.data.now a.sent (data_of l) in
+          let s = x.sent in
+          let t = x.used in
+          let y = q.put (f h) (omega arith) (omega arith) in
+          let s' = y.sent in
+          let t' = y.used in
+          record {
+            listed =
+                y.listed
+                ∙ (ap (λ z. sets z b.used (steps_from b.sent k)) x.listed
+                ∙ (sets_append a.steps.now a.used (steps_from a.sent l) (steps_from b.sent k) b.used (omega (arith, length-steps a.sent l))
+                ∙ ap (λ z. sets a.steps.now a.used z) (sym (steps_join a.sent l k b.sent s))));
+            laid =
+                y.laid
+                ∙ (ap (λ z. sets z b.sent (data_of k)) x.laid
+                ∙ (sets_append a.data.now a.sent (data_of l) (data_of k) b.sent s ∙ ap (λ z. sets a.data.now a.sent z) (sym (data_join l k))));
+            used = omega arith;
+            sent = omega arith;
+          };
     }
 
 -- what a page cycle sends
@@ -116,18 +135,34 @@ module _ (kind : Kind) (paged : of_page kind ≡ true) (z q : ℕ) (new : List �
 
   -- where there is no room, nothing is put
   pub sent-short :
-      (steps : List Step) (sent : List ℕ) (at : ℕ × ℕ) → (length steps ≤ at.0) ⊎ (length sent < at.1 + w.1)
-      → Sent one steps steps sent sent at at
-  sent-short steps sent at (inl h) room room' = absurd (omega arith)
-  sent-short steps sent at (inr h) room room' = absurd (omega (arith, long_one))
+      (o : Option (ℕ × ℕ)) → Some w ≡ o → (a : Sheet) → (length a.steps.now ≤ a.used) ⊎ (length a.data.now < a.sent + w.1)
+      → Sent ⊤ (sending (cycle_of kind) z q new o) a a
+  sent-short o e a h =
+      subst (λ (x : Option (ℕ × ℕ)). Sent ⊤ (sending (cycle_of kind) z q new x) a a) e
+      (record { steps = refl; bytes = refl; put = λ _ room room'. no h room room' })
+    where
+      no :
+          (length a.steps.now ≤ a.used) ⊎ (length a.data.now < a.sent + w.1) → a.used + length one ≤ length a.steps.now
+          → a.sent + length (data_of one) ≤ length a.data.now → Put one a a
+      no (inl u) room room' = absurd (omega arith)
+      no (inr u) room room' = absurd (omega (arith, long_one))
 
   pub sent-page :
-      (steps : List Step) (sent : List ℕ) (at : ℕ × ℕ)
-      → Sent one steps (set steps at.0 (record { kind = kind; address = q * z + w.0; length = w.1; place = at.1 })) sent
-      (sets sent at.1 (bytes_from z new w.0 w.1)) at (at.0 + 1, at.1 + w.1)
-  sent-page steps sent at room room' =
-      record {
-        listed = ap (λ y. sets steps at.0 y) (sym (step-one at.1));
-        laid = ap (λ y. sets sent at.1 y) (sym data_one);
-        moved = ap (λ y. (at.0 + 1, at.1 + y)) (sym long_one);
-      }
+      (o : Option (ℕ × ℕ)) → Some w ≡ o → (a b : Sheet) → b.steps.ghost_name ≡ a.steps.ghost_name → b.data.ghost_name ≡ a.data.ghost_name
+      → b.steps.now ≡ set a.steps.now a.used (record { kind = kind; address = q * z + w.0; length = w.1; place = a.sent })
+      → b.data.now ≡ sets a.data.now a.sent (bytes_from z new w.0 w.1) → b.used ≡ a.used + 1 → b.sent ≡ a.sent + w.1
+      → Sent ⊤ (sending (cycle_of kind) z q new o) a b
+  sent-page o e a b steps bytes s d u v =
+      subst (λ (x : Option (ℕ × ℕ)). Sent ⊤ (sending (cycle_of kind) z q new x) a b) e
+      (record {
+        steps = steps;
+        bytes = bytes;
+        put =
+            λ _ _ _.
+            record {
+              listed = s ∙ ap (λ y. sets a.steps.now a.used y) (sym (step-one a.sent));
+              laid = d ∙ ap (λ y. sets a.data.now a.sent y) (sym data_one);
+              used = u;
+              sent = v ∙ ap (λ y. a.sent + y) (sym long_one);
+            };
+      })

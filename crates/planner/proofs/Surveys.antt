@@ -1,10 +1,11 @@
 -- What is found of a write: pages that it does not touch, a sector's choice, and the choice of all.
-use Rattle.std.proofs.Common.{◌≡◌, ℕ, zero, suc, ◌+◌, ◌*◌, ◌<◌, Bool, true, false, cond, not, ◌&&◌, ◌⊎◌, List, [], replicate, Some, None, sym, refl, ap, ◌∙◌, ap₂, inl, inr, zero-add, add-one, arith}
-use Rattle.std.proofs.lemmas.Bool.{and_from, and_right, cases_eq, cond-false}
+use Rattle.std.proofs.Common.{◌≡◌, ℕ, zero, suc, ◌+◌, ◌*◌, ◌<◌, ◌≤◌, Bool, true, false, cond, not, ◌&&◌, ◌⊎◌, List, [], replicate, Some, None, sym, refl, ap, ◌∙◌, ap₂, inl, inr, ⊎_elim, zero-add, arith}
+use Rattle.std.proofs.lemmas.Bool.{and_from, and_right, or_parts, or_cases, cases_Bool, cases_eq, cond-false}
 use Rattle.memory.specs.Page.{page}
 use Rattle.memory.specs.Protection.{free}
 use Rattle.memory.specs.Cycle.{program, alter}
 use Rattle.part.specs.Meaning.{Meaning}
+use Rattle.std.specs.List.{list_any, range_with_len}
 use Rattle.least.specs.Cost.{lesser}
 use Rattle.least.specs.Fewest.{fewest}
 use Rattle.least.specs.Window.{window}
@@ -51,15 +52,14 @@ either false p = (fewest_lawful 64).none_plus p
 
 pub erased_is :
     (m : Meaning) (a : ℕ) (b : List ℕ) (first count : ℕ) (presets : ℕ × ℕ) → presets ≡ on_from m a b first count
-    → fewest.plus (1 + presets.0, presets.1) (off_from m a b first count) ≡ erased_from m a b first count
+    → fewest.plus (fewest.plus (1, 0) presets) (off_from m a b first count) ≡ erased_from m a b first count
 erased_is m a b first count presets e =
     let L = fewest_lawful 64 in
-    ap (λ x. fewest.plus (1 + presets.0, x) (off_from m a b first count)) (sym (zero-add presets.1))
-    ∙ (L.plus_assoc (1, 0) presets (off_from m a b first count)
+    L.plus_assoc (1, 0) presets (off_from m a b first count)
     ∙ ap (λ x. fewest.plus (1, 0) x)
     (ap (λ x. fewest.plus x (off_from m a b first count)) e
     ∙ sum_both L count (λ j. preset_on m a b (first + j)) (λ j. preset_off m a b (first + j)) (λ j. preset m a b (first + j))
-    (λ j. either (touched a b (first + j)) (preset m a b (first + j)))))
+    (λ j. either (touched a b (first + j)) (preset m a b (first + j))))
 
 -- a limit, and a cost that was looked at only while below it
 module _ (limit cost : ℕ × ℕ) where
@@ -105,11 +105,7 @@ on_flat m address bytes =
     sum_flat (fewest_lawful 64) (preset_on m address bytes) m.shape.sectors m.shape.pages
     ∙ sum_same fewest (m.shape.sectors * m.shape.pages) (preset_on m address bytes) _ (λ j l. ap (preset_on m address bytes) (sym (zero-add j)))
 
--- no sector so far is protected; one is
-pub free_more : (prot : ℕ → Bool) (k : ℕ) → free prot k ≡ true → prot k ≡ false → free prot (k + 1) ≡ true
-free_more prot k h e =
-    ap (free prot) (add-one k) ∙ and_from (not (prot k)) (free prot k) (ap not e) h
-
+-- a sector that is protected
 pub free_not : (prot : ℕ → Bool) (n k : ℕ) → k < n → prot k ≡ true → free prot n ≡ false
 free_not prot zero k h e = absurd (omega arith)
 free_not prot (suc n) k h e = go (cases_eq k n) (λ l. free_not prot n k l e)
@@ -117,6 +113,29 @@ free_not prot (suc n) k h e = go (cases_eq k n) (λ l. free_not prot n k l e)
     go : (k ≡ n) ⊎ (k ≡ n → ⊥) → (k < n → free prot n ≡ false) → (not (prot n) && free prot n) ≡ false
     go (inl t) ih = ap (λ (x : Bool). not x && free prot n) (ap prot (sym t) ∙ e)
     go (inr d) ih = and_right (not (prot n)) (free prot n) (ih (omega arith))
+
+-- a test that no number of a range passes, or one does
+any_none : (p : ℕ → Bool) (a n : ℕ) → list_any p (range_with_len a n) ≡ false → (k : ℕ) → a ≤ k → k < a + n → p k ≡ false
+any_none p a zero e k l u = absurd (omega arith)
+any_none p a (suc n) e k l u =
+    let v = or_parts _ _ e in
+    ⊎_elim (λ t. ap p t ∙ v.0) (λ d. any_none p (a + 1) n v.1 k (omega (arith, d)) (omega arith)) (cases_eq k a)
+
+any_some : (p : ℕ → Bool) (a n : ℕ) → list_any p (range_with_len a n) ≡ true → (k : ℕ) × (k < a + n) × (p k ≡ true)
+any_some p a zero e = let z : ◌≡◌ {A = ℕ} 0 1 = cc in absurd (omega arith)
+any_some p a (suc n) e =
+    ⊎_elim (λ t. (a, omega arith, t)) (λ t. let r = any_some p (a + 1) n t in (r.0, omega (arith, r.1), r.2)) (or_cases _ _ e)
+
+free_if : (prot : ℕ → Bool) (n : ℕ) → ((k : ℕ) → k < n → prot k ≡ false) → free prot n ≡ true
+free_if prot zero h = refl
+free_if prot (suc n) h = and_from (not (prot n)) (free prot n) (ap not (h n (omega arith))) (free_if prot n (λ k l. h k (omega arith)))
+
+pub free_is : (prot : ℕ → Bool) (n : ℕ) → not (list_any prot (range_with_len 0 n)) ≡ free prot n
+free_is prot n =
+    ⊎_elim
+    (λ t. let r = any_some _ 0 n t in ap not t ∙ sym (free_not prot n r.0 (omega (arith, r.1)) r.2))
+    (λ t. ap not t ∙ sym (free_if prot n (λ k l. any_none _ 0 n t k (omega arith) (omega (arith, l)))))
+    (cases_Bool (list_any prot (range_with_len 0 n)))
 
 -- the choice between the sectors and a bulk erase, which may not be accepted
 module _ (fr : Bool) (limit cost : ℕ × ℕ) where

@@ -1,14 +1,29 @@
 -- Sums and lists that grow at their end: one more, a front of them, and those of sectors as one of pages.
-use Rattle.std.proofs.Common.{◌≡◌, ℕ, zero, suc, ◌+◌, ◌*◌, ◌<◌, ◌≤◌, ◌⊎◌, List, ◌++◌, sym, refl, ap, ◌∙◌, subst, ap₂, inl, inr, add-zero, add-suc, suc-mul, zero-mul, add-one, arith}
+use Rattle.std.proofs.Common.{◌≡◌, ℕ, zero, suc, ◌+◌, ◌-◌, ◌*◌, ◌<◌, ◌≤◌, ◌⊎◌, List, ◌++◌, sym, refl, ap, ◌∙◌, subst, ap₂, inl, inr, add-zero, add-suc, suc-mul, zero-mul, add-one, arith}
 use Rattle.std.proofs.lemmas.List.{append_assoc, append-nil}
 use Rattle.std.proofs.lemmas.Bool.{cases_eq}
 use Rattle.memory.specs.Cycle.{Cycle}
 use Rattle.least.specs.Cost.{Cost, Lawful, sum_to}
+use Rattle.least.specs.Fewest.{fewest}
 use Rattle.least.specs.Plan.{list_to}
 use Rattle.least.proofs.Sums.{Le, plus_none, le-plus}
 
 pub sum_more : {C : Type 0} (K : Cost C) (n : ℕ) (f : ℕ → C) → sum_to K (n + 1) f ≡ K.plus (sum_to K n f) (f n)
 sum_more K n f = ap (λ x. sum_to K x f) (add-one n)
+
+-- both parts of a sum
+pub parts : (s a b : ℕ × ℕ) → s ≡ fewest.plus a b → (s.0 ≡ a.0 + b.0) × (s.1 ≡ a.1 + b.1)
+parts s a b e = (ap (λ x. x.0) e, ap (λ x. x.1) e)
+
+-- pages from the first one on, and one more
+pub sum_next :
+    {C : Type 0} (K : Cost C) (f : ℕ → C) (first q : ℕ) → first ≤ q
+    → sum_to K (q + 1 - first) (λ j. f (first + j)) ≡ K.plus (sum_to K (q - first) (λ j. f (first + j))) (f q)
+sum_next K f first q h =
+    let more : q + 1 - first ≡ q - first + 1 = omega arith in
+    let here : first + (q - first) ≡ q = omega arith in
+    ap (λ n. sum_to K n (λ j. f (first + j))) more
+    ∙ (sum_more K (q - first) (λ j. f (first + j)) ∙ ap (λ x. K.plus (sum_to K (q - first) (λ j. f (first + j))) (f x)) here)
 
 pub sum_same : {C : Type 0} (K : Cost C) (n : ℕ) (f g : ℕ → C) → ((j : ℕ) → j < n → f j ≡ g j) → sum_to K n f ≡ sum_to K n g
 sum_same K zero f g h = refl

@@ -3,24 +3,27 @@ use Rattle.std.specs.Prelude.{ℕ, ◌+◌, ◌*◌, Bool, false, cond, List, �
 use Rattle.memory.specs.Cycle.{Cycle, sector_erase, bulk_erase}
 use Rattle.part.specs.Meaning.{Meaning}
 use Rattle.least.specs.Plan.{keep_cycles, presets, list_to}
+use Rattle.planner.specs.declared.emit.Pages.{Pages}
+use Rattle.planner.specs.declared.emit.Pages.TheVariants.{Kept, Erased}
 use Rattle.planner.specs.Looking.{wanted}
 
 module _ (m : Meaning) (address : ℕ) (bytes : List ℕ) where
-  -- n pages from page q on, as they stand
-  abbrev pub kept_list : ℕ → ℕ → List Cycle
-  kept_list q n = list_to n (λ j. keep_cycles 64 m.image (wanted m address bytes) (q + j))
+  -- page q as it stands, and once erased
+  abbrev pub page_list : Pages → ℕ → List Cycle
+  page_list Kept q = keep_cycles 64 m.image (wanted m address bytes) q
+  page_list Erased q = presets 64 (wanted m address bytes) q
 
-  -- and once erased
-  abbrev pub preset_list : ℕ → ℕ → List Cycle
-  preset_list q n = list_to n (λ j. presets 64 (wanted m address bytes) (q + j))
+  -- n pages from page q on
+  abbrev pub pages_list : Pages → ℕ → ℕ → List Cycle
+  pages_list pages q n = list_to n (λ j. page_list pages (q + j))
 
   abbrev pub sector_list : Bool → ℕ → List Cycle
   sector_list erased k =
-      cond erased (sector_erase (k * m.shape.pages * 64) ∷ preset_list (k * m.shape.pages) m.shape.pages)
-      (kept_list (k * m.shape.pages) m.shape.pages)
+      cond erased (sector_erase (k * m.shape.pages * 64) ∷ pages_list Erased (k * m.shape.pages) m.shape.pages)
+      (pages_list Kept (k * m.shape.pages) m.shape.pages)
 
   abbrev pub bulk_list : List Cycle
-  bulk_list = bulk_erase ∷ preset_list 0 (m.shape.sectors * m.shape.pages)
+  bulk_list = bulk_erase ∷ pages_list Erased 0 (m.shape.sectors * m.shape.pages)
 
   -- sectors with their marks
   abbrev pub sectors_list : List Bool → List Cycle

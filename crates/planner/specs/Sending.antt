@@ -1,25 +1,30 @@
--- Steps and data put at the next free places of a step list and a data buffer.
+-- Cycles put on a sheet, at its next free places.
 use Rattle.std.specs.Prelude.{◌≡◌, ℕ, ◌+◌, ◌≤◌, Bool, true, false, List, length}
 use Rattle.std.proofs.lemmas.List.Edits.{sets}
 use Rattle.memory.specs.declared.kind.Kind.{Kind}
 use Rattle.memory.specs.declared.kind.Kind.TheVariants.{Program, Alter, Preset, SectorErase, BulkErase}
 use Rattle.memory.specs.Cycle.{Cycle}
 use Rattle.least.specs.declared.step.Step.{Step}
-use Rattle.least.specs.Steps.{steps_from, data_of}
+use Rattle.least.specs.Steps.{steps_from, steps_of, data_of}
+use Rattle.planner.specs.declared.sheet.Sheet.{Sheet}
 
--- where the next step and the next data go
-abbrev pub next : List Cycle → ℕ × ℕ → ℕ × ℕ
-next l at = (at.0 + length l, at.1 + length (data_of l))
+-- the cycles were put there, and the next free places are those after them
+pub record Put (l : List Cycle) (a b : Sheet) : Type 0 where
+  pub listed : b.steps.now ≡ sets a.steps.now a.used (steps_from a.sent l)
+  pub laid : b.data.now ≡ sets a.data.now a.sent (data_of l)
+  pub used : b.used ≡ a.used + length l
+  pub sent : b.sent ≡ a.sent + length (data_of l)
 
--- if there is room for the cycles, they were put there, and the next free places are those after them
-pub record Put (l : List Cycle) (steps steps' : List Step) (sent sent' : List ℕ) (at at' : ℕ × ℕ) : Type 0 where
-  pub listed : steps' ≡ sets steps at.0 (steps_from at.1 l)
-  pub laid : sent' ≡ sets sent at.1 (data_of l)
-  pub moved : at' ≡ next l at
+-- the sheet is of the same buffers; if this is known, and there is room for the cycles, they were put there
+pub record Sent (known : Type 0) (l : List Cycle) (a b : Sheet) : Type 0 where
+  pub steps : b.steps.ghost_name ≡ a.steps.ghost_name
+  pub bytes : b.data.ghost_name ≡ a.data.ghost_name
+  pub put : known → a.used + length l ≤ length a.steps.now → a.sent + length (data_of l) ≤ length a.data.now → Put l a b
 
-abbrev pub Sent : List Cycle → List Step → List Step → List ℕ → List ℕ → ℕ × ℕ → ℕ × ℕ → Type 0
-Sent l steps steps' sent sent' at at' =
-    at.0 + length l ≤ length steps → at.1 + length (data_of l) ≤ length sent → Put l steps steps' sent sent' at at'
+-- the same of buffers with nothing put before: if there is room for the cycles, they stand at the front of each
+abbrev pub Laid : List Cycle → List Step → List Step → List ℕ → List ℕ → Type 0
+Laid l steps steps' sent sent' =
+    length l ≤ length steps → length (data_of l) ≤ length sent → (steps' ≡ sets steps 0 (steps_of l)) × (sent' ≡ sets sent 0 (data_of l))
 
 -- a cycle of this kind writes in a page
 abbrev pub of_page : Kind → Bool

@@ -6,7 +6,7 @@ ghost use Rattle.planner.specs.Asking.{for_barred};
 ghost use Rattle.planner.specs.Looking.{Fitting, LookedBy, Readable, wanted};
 ghost use Rattle.planner.specs.Changes.{FirstIn};
 
-use crate::look::{both_pages, touches};
+use crate::look::{both_pages, protects, touches};
 use crate::overlay::Write;
 use least::window::first_change;
 use memory::model::PAGE_BYTES;
@@ -22,9 +22,7 @@ fn change<P: Part>(part: &mut P, write: Write<'_>, q: usize) -> Option<usize>
         return None;
     }
     let (old, new) = both_pages(part, write, q);
-    let Some(place) = first_change(&old, &new) else {
-        return None;
-    };
+    let place = first_change(&old, &new)?;
     Some(q * PAGE_BYTES + place)
 }
 
@@ -35,8 +33,8 @@ fn change_in<P: Part>(part: &mut P, write: Write<'_>, first: usize, count: usize
     ensures looked { LookedBy P.Part.meaning P.Part.trace P.Part.intact (64 * count) part.old part.new }
     ensures value { P.Part.intact part.old → FirstIn (first * 64) ((first + count) * 64) (P.Part.meaning part.old).image (wanted (P.Part.meaning part.old) write.entry.address write.entry.bytes.now) result }
 {
-    for j in 0..count {
-        if let Some(place) = change(part, write, first + j) {
+    for q in first..first + count {
+        if let Some(place) = change(part, write, q) {
             return Some(place);
         }
     }
@@ -51,7 +49,7 @@ pub(crate) fn lowest_barred<P: Part>(part: &mut P, write: Write<'_>) -> Option<u
     let pages = part.pages();
     let sectors = part.sectors();
     for k in 0..sectors {
-        if part.is_protected(k).unwrap() {
+        if protects(part, k) {
             if let Some(place) = change_in(part, write, k * pages, pages) {
                 return Some(place);
             }

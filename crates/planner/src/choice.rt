@@ -9,61 +9,70 @@ ghost use Rattle.planner.specs.Looking.{Fitting, LookedBy};
 ghost use Rattle.planner.specs.Survey.{below, by_sectors, erases, kept, on_all, preset, preset_on};
 ghost use Rattle.planner.specs.Choice.{Chosen};
 
-use crate::chosen::{Choice, MOST_SECTORS};
+use crate::chosen::{Choice, Erasure, MOST_SECTORS};
+use crate::look::protects;
 use crate::overlay::Write;
-use crate::survey::{erase_costs, touched_costs};
+use crate::survey::{Costs, erase_costs, touched_costs};
 use least::cost::Cost;
 use part::part::Part;
 
-// Whether sector k is erased first, what it then costs, and what the presets of its touched pages cost.
-fn sector_cost<P: Part>(part: &mut P, write: Write<'_>, k: usize) -> (bool, Cost, Cost)
+// Whether a sector is erased first, and what it then costs.
+#[derive(Clone, Copy)]
+struct Sector {
+    erased: bool,
+    costs: Costs,
+}
+
+fn sector_cost<P: Part>(part: &mut P, write: Write<'_>, k: usize) -> Sector
     requires { Fitting (P.Part.meaning part.old) write.address write.bytes.now × (k < (P.Part.meaning part.old).shape.sectors) }
     ensures looked { LookedBy P.Part.meaning P.Part.trace P.Part.intact (64 * (P.Part.meaning part.old).shape.pages) part.old part.new }
-    ensures bound { (result.1.0 ≤ 2049) × (result.1.1 ≤ 131072) }
-    ensures presets { (result.2.0 ≤ 2048) × (result.2.1 ≤ 131072) }
-    ensures first { P.Part.intact part.old → result.0 ≡ erases (P.Part.meaning part.old) write.entry.address write.entry.bytes.now k }
-    ensures value { P.Part.intact part.old → result.1 ≡ sector_cost fewest (P.Part.meaning part.old).shape (kept (P.Part.meaning part.old) write.entry.address write.entry.bytes.now) (preset (P.Part.meaning part.old) write.entry.address write.entry.bytes.now) k }
-    ensures touched { P.Part.intact part.old → result.2 ≡ over_sector fewest (P.Part.meaning part.old).shape (preset_on (P.Part.meaning part.old) write.entry.address write.entry.bytes.now) k }
+    ensures bound { (result.costs.cost.0 ≤ 2049) × (result.costs.cost.1 ≤ 131072) }
+    ensures presets { (result.costs.presets.0 ≤ 2048) × (result.costs.presets.1 ≤ 131072) }
+    ensures first { P.Part.intact part.old → result.erased ≡ erases (P.Part.meaning part.old) write.entry.address write.entry.bytes.now k }
+    ensures value { P.Part.intact part.old → result.costs.cost ≡ sector_cost fewest (P.Part.meaning part.old).shape (kept (P.Part.meaning part.old) write.entry.address write.entry.bytes.now) (preset (P.Part.meaning part.old) write.entry.address write.entry.bytes.now) k }
+    ensures touched { P.Part.intact part.old → result.costs.presets ≡ over_sector fewest (P.Part.meaning part.old).shape (preset_on (P.Part.meaning part.old) write.entry.address write.entry.bytes.now) k }
 {
     let pages = part.pages();
     let first = k * pages;
-    let (keep, presets) = touched_costs(part, write, first, pages);
-    match erase_costs(part, write, first, pages, presets, keep) {
-        Some(erase) => (true, erase, presets),
-        None => (false, keep, presets),
+    let kept = touched_costs(part, write, first, pages);
+    match erase_costs(part, write, first, pages, kept.presets, kept.cost) {
+        Some(cost) => Sector {
+            erased: true,
+            costs: Costs {
+                cost,
+                presets: kept.presets,
+            },
+        },
+        None => Sector {
+            erased: false,
+            costs: kept,
+        },
     }
 }
 
 // What the sectors cost together, and the presets of all touched pages. Marks the sectors that are erased first.
-fn sector_costs<P: Part>(part: &mut P, write: Write<'_>, erased: &mut [bool]) -> (Cost, Cost)
+fn sector_costs<P: Part>(part: &mut P, write: Write<'_>, erased: &mut [bool]) -> Costs
     requires { Fitting (P.Part.meaning part.old) write.address write.bytes.now × (length erased.old ≡ 128) }
     ensures looked { LookedBy P.Part.meaning P.Part.trace P.Part.intact (whole (P.Part.meaning part.old)) part.old part.new }
-    ensures bound { (result.1.0 ≤ 262144) × (result.1.1 ≤ 16777216) }
-    ensures value { P.Part.intact part.old → result.0 ≡ by_sectors (P.Part.meaning part.old) write.entry.address write.entry.bytes.now }
-    ensures touched { P.Part.intact part.old → result.1 ≡ on_all (P.Part.meaning part.old) write.entry.address write.entry.bytes.now }
+    ensures bound { (result.presets.0 ≤ 262144) × (result.presets.1 ≤ 16777216) }
+    ensures value { P.Part.intact part.old → result.cost ≡ by_sectors (P.Part.meaning part.old) write.entry.address write.entry.bytes.now }
+    ensures touched { P.Part.intact part.old → result.presets ≡ on_all (P.Part.meaning part.old) write.entry.address write.entry.bytes.now }
     ensures marks { P.Part.intact part.old → (k : ℕ) → k < (P.Part.meaning part.old).shape.sectors → slice_index_or erased.new k false ≡ erases (P.Part.meaning part.old) write.entry.address write.entry.bytes.now k }
 {
     let sectors = part.sectors();
-    let mut cost: Cost = (0, 0);
-    let mut presets: Cost = (0, 0);
+    let mut costs = Costs::NONE;
     for k in 0..sectors {
-        let (first, sector, touched) = sector_cost(part, write, k);
-        erased[k] = first;
-        cost = (cost.0 + sector.0, cost.1 + sector.1);
-        presets = (presets.0 + touched.0, presets.1 + touched.1);
+        let sector = sector_cost(part, write, k);
+        erased[k] = sector.erased;
+        costs += sector.costs;
     }
-    (cost, presets)
+    costs
 }
 
 fn is_free<P: Part>(part: &P) -> bool
     ensures { result ≡ free (protected_at (P.Part.meaning part.now)) (P.Part.meaning part.now).shape.sectors }
 {
-    for k in 0..part.sectors() {
-        if part.is_protected(k).unwrap() {
-            return false;
-        }
-    }
-    true
+    !(0..part.sectors()).any(|k| protects(part, k))
 }
 
 // A bulk erase and then presets, if it is accepted and below what the sectors cost, from the presets of the touched pages.
@@ -86,17 +95,15 @@ pub(crate) fn choose<P: Part>(part: &mut P, write: Write<'_>) -> Choice
     ensures value { P.Part.intact part.old → Chosen (P.Part.meaning part.old) write.entry.address write.entry.bytes.now result }
 {
     let mut erased = [false; MOST_SECTORS];
-    let (sectors, presets) = sector_costs(part, write, &mut erased);
-    match bulk_cost(part, write, presets, sectors) {
+    let sectors = sector_costs(part, write, &mut erased);
+    match bulk_cost(part, write, sectors.presets, sectors.cost) {
         Some(cost) => Choice {
-            bulk: true,
-            erased,
+            erasure: Erasure::All,
             cost,
         },
         None => Choice {
-            bulk: false,
-            erased,
-            cost: sectors,
+            erasure: Erasure::Sectors(erased),
+            cost: sectors.cost,
         },
     }
 }

@@ -4,11 +4,15 @@ use least::cost::Cost;
 
 pub const MOST_SECTORS: usize = 128;
 
+// What is erased first: all, or the sectors that are marked.
+#[derive(Clone, Copy)]
+pub enum Erasure {
+    All,
+    Sectors([bool; MOST_SECTORS]),
+}
+
 #[derive(Clone, Copy)]
 pub struct Choice {
-    // all is erased first
-    pub bulk: bool,
-    // else, whether each sector is
-    pub erased: [bool; MOST_SECTORS],
+    pub erasure: Erasure,
     pub cost: Cost,
 }

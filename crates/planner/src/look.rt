@@ -1,6 +1,7 @@
 // Looking at a part's pages, and at what a write wants of them.
 ghost use Rattle.std.specs.Prelude.{◌≡◌, ◌+◌, ◌<◌, ◌≤◌, length};
 ghost use Rattle.memory.specs.Page.{page};
+ghost use Rattle.part.specs.Meaning.{protected_at};
 ghost use Rattle.planner.specs.Looking.{Fitting, LookedBy, Readable, touched, wanted};
 
 use crate::overlay::{Write, overlay};
@@ -19,6 +20,13 @@ pub(crate) fn read_page<P: Part>(part: &mut P, q: usize) -> Page
     let mut bytes = [0; PAGE_BYTES];
     part.read(q * PAGE_BYTES, &mut bytes).unwrap();
     bytes
+}
+
+// Whether a sector is there and protected.
+pub(crate) fn protects<P: Part>(part: &P, sector: usize) -> bool
+    ensures { result ≡ protected_at (P.Part.meaning part.now) sector }
+{
+    part.is_protected(sector) == Ok(true)
 }
 
 // Whether a write has bytes for page q.

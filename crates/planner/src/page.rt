@@ -4,7 +4,7 @@ ghost use Rattle.least.specs.Fewest.{fewest};
 ghost use Rattle.least.specs.Window.{window};
 ghost use Rattle.least.specs.Plan.{lowers, window_cost};
 
-use least::cost::Cost;
+use least::cost::{Cost, NOTHING};
 use least::window::window;
 use memory::model::PAGE_BYTES;
 
@@ -15,8 +15,8 @@ pub(crate) fn page_cost(old: &[u8], new: &[u8]) -> Cost
     ensures bound { (result.0 ≤ 1) × (result.1 ≤ 64) }
 {
     match window(old, new) {
-        Some((_, length)) => (1, length),
-        None => (0, 0),
+        Some(run) => (1, run.length),
+        None => NOTHING,
     }
 }
 
@@ -32,10 +32,5 @@ pub(crate) fn only_lowers(old: &[u8], new: &[u8]) -> bool
     requires { length old.now ≡ length new.now }
     ensures { result ≡ lowers old.now new.now }
 {
-    for i in 0..old.len() {
-        if old[i] & new[i] != new[i] {
-            return false;
-        }
-    }
-    true
+    old.iter().zip(new).all(|(a, b)| a & b == *b)
 }

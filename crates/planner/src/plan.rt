@@ -47,8 +47,8 @@ fn plan_inside<P: Part>(
         part,
         write,
         &choice,
-        &mut steps[0..cycles],
-        &mut data[0..sent],
+        &mut steps[..cycles],
+        &mut data[..sent],
     );
     Ok(choice.cost)
 }

@@ -29,8 +29,8 @@ pub fn run<P: Part>(
     if !wait(part, limit) {
         return Err(RunFault::StillBusy(limit));
     }
-    for i in 0..steps.len() {
-        if let Err(fault) = send(part, &steps[i], data) {
+    for (i, step) in steps.iter().enumerate() {
+        if let Err(fault) = send(part, step, data) {
             return Err(RunFault::Refused { step: i, fault });
         }
         if !wait(part, limit) {

@@ -1,76 +1,97 @@
-// Cycles put into a step list and a data buffer, at their next free places.
-// `at` has these places: steps, and data bytes, so far. Where there is no room nothing is put.
-ghost use Rattle.std.specs.Prelude.{◌≡◌, ℕ, ◌+◌, ◌*◌, ◌^◌, ◌<◌, ◌≤◌, true, List, [], ◌∷◌, length, IfSome};
+// A sheet: a lent step list and a lent data buffer, filled from their fronts. Where there is no room nothing is put.
+ghost use Rattle.std.specs.Prelude.{◌≡◌, ℕ, ◌+◌, ◌*◌, ◌^◌, ◌<◌, ◌≤◌, ⊤, true, [], ◌∷◌, length, nat_le};
 ghost use Rattle.std.proofs.lemmas.List.Edits.{sets};
 ghost use Rattle.memory.specs.Cycle.{cycle_of};
 ghost use Rattle.least.specs.Plan.{bytes_from, sending};
-ghost use Rattle.planner.specs.Sending.{Sent, of_page};
 ghost use Rattle.least.specs.Steps.{address_of};
+ghost use Rattle.least.specs.Window.{window};
 
 use least::step::Step;
+use least::window::{Run, window};
 use memory::kind::Kind;
 use memory::model::PAGE_BYTES;
 
-// The bytes of a window, which comes round at the page's end.
-fn send_bytes(data: &mut [u8], at: usize, page: &[u8], window: (usize, usize))
-    requires { (length page.now ≡ 64) × (window.0 < 64) × (at + window.1 ≤ length «data».old) }
-    ensures { «data».new ≡ sets «data».old at (bytes_from 64 page.now window.0 window.1) }
-{
-    for i in 0..window.1 {
-        data[at + i] = page[(window.0 + i % PAGE_BYTES) % PAGE_BYTES];
+#[derive(Drop)]
+pub(crate) struct Sheet<'a> {
+    steps: &'a mut [Step],
+    data: &'a mut [u8],
+    // steps, and data bytes, so far
+    used: usize,
+    sent: usize,
+    ghost steps_fit: { used ≤ length steps.now },
+    ghost data_fit: { sent ≤ length «data».now },
+}
+
+impl<'a> Sheet<'a> {
+    ghost use Rattle.planner.specs.Sending.{Sent, of_page};
+
+    pub(crate) fn new(steps: &'a mut [Step], data: &'a mut [u8]) -> Sheet<'a>
+        ensures lent { (result.steps.ghost_name ≡ steps.entry.ghost_name) × (result.data.ghost_name ≡ «data».entry.ghost_name) }
+        ensures here { (result.steps.now ≡ steps.old) × (result.data.now ≡ «data».old) }
+        ensures empty { (result.used ≡ 0) × (result.sent ≡ 0) }
+    {
+        Sheet {
+            steps,
+            data,
+            used: 0,
+            sent: 0,
+        }
+    }
+
+    // Whether there is no room for a step. The step list has room for the plan only, so the plan then has no more steps.
+    pub(crate) fn is_full(&self) -> bool
+        ensures { result ≡ nat_le (length self.now.steps.now) self.now.used }
+    {
+        self.used >= self.steps.len()
+    }
+
+    // The cycle that sends what changes of page q, if anything does.
+    pub(crate) fn put_page(&mut self, kind: Kind, q: usize, old: &[u8], new: &[u8])
+        requires { (of_page kind ≡ true) × (length old.now ≡ 64) × (length new.now ≡ 64) × (q < 2 ^ 32) }
+        ensures { Sent ⊤ (sending (cycle_of kind) 64 q new.now (window 64 old.now new.now)) self.old self.new }
+    {
+        let Some(Run { start, length }) = window(old, new) else {
+            return;
+        };
+        if self.is_full() || length > self.data.len() - self.sent {
+            return;
+        }
+        self.steps[self.used] = Step {
+            kind,
+            address: q * PAGE_BYTES + start,
+            length,
+            place: self.sent,
+        };
+        let data = &mut *self.data;
+        send_bytes(&mut data[self.sent..self.sent + length], new, start);
+        self.used += 1;
+        self.sent += length;
+    }
+
+    // An erase, which has no data.
+    pub(crate) fn put_erase(&mut self, kind: Kind, address: usize)
+        requires { address_of (cycle_of kind address []) ≡ address }
+        ensures { Sent ⊤ (cycle_of kind address [] ∷ []) self.old self.new }
+    {
+        if self.is_full() {
+            return;
+        }
+        self.steps[self.used] = Step {
+            kind,
+            address,
+            length: 0,
+            place: self.sent,
+        };
+        self.used += 1;
     }
 }
 
-// The cycle that sends the wanted bytes of a window of page q, if there is one.
-pub(crate) fn put_page(
-    steps: &mut [Step],
-    data: &mut [u8],
-    at: (usize, usize),
-    kind: Kind,
-    q: usize,
-    page: &[u8],
-    window: Option<(usize, usize)>,
-) -> (usize, usize)
-    requires room { (of_page kind ≡ true) × (length page.now ≡ 64) × (q < 2 ^ 32) × (at.0 ≤ length steps.old) × (at.1 ≤ length «data».old) }
-    requires start { IfSome window (λ w. w.0 < 64) }
-    ensures sent { Sent (sending (cycle_of kind) 64 q page.now window) steps.old steps.new «data».old «data».new at result }
-    ensures bound { (result.0 ≤ length steps.old) × (result.1 ≤ length «data».old) }
+// The bytes of a page from a place on, which come round at the page's end, as many as fill the buffer.
+fn send_bytes(data: &mut [u8], page: &[u8], start: usize)
+    requires { (length page.now ≡ 64) × (start < 64) }
+    ensures { «data».new ≡ bytes_from 64 page.now start (length «data».old) }
 {
-    let Some((start, length)) = window else {
-        return at;
-    };
-    if at.0 >= steps.len() || length > data.len() - at.1 {
-        return at;
+    for (i, byte) in data.iter_mut().enumerate() {
+        *byte = page[(start + i) % PAGE_BYTES];
     }
-    steps[at.0] = Step {
-        kind,
-        address: q * PAGE_BYTES + start,
-        length,
-        place: at.1,
-    };
-    send_bytes(data, at.1, page, (start, length));
-    (at.0 + 1, at.1 + length)
-}
-
-// An erase, which has no data.
-pub(crate) fn put_erase(
-    steps: &mut [Step],
-    at: (usize, usize),
-    kind: Kind,
-    address: usize,
-) -> (usize, usize)
-    requires { (address_of (cycle_of kind address []) ≡ address) × (at.0 ≤ length steps.old) }
-    ensures sent { (sent : List ℕ) → Sent (cycle_of kind address [] ∷ []) steps.old steps.new sent sent at result }
-    ensures bound { (result.0 ≤ length steps.old) × (result.1 ≡ at.1) }
-{
-    if at.0 >= steps.len() {
-        return at;
-    }
-    steps[at.0] = Step {
-        kind,
-        address,
-        length: 0,
-        place: at.1,
-    };
-    (at.0 + 1, at.1)
 }

@@ -1,6 +1,7 @@
 // What a write costs, sector by sector. A page that it touches is read once, for what it costs to keep and once erased; no
 // other page is read unless an erase may still be lower.
-ghost use Rattle.std.specs.Prelude.{◌≡◌, ◌+◌, ◌*◌, ◌<◌, ◌≤◌, length, IfSome, if◌then◌else◌};
+ghost use Rattle.std.specs.Prelude.{◌≡◌, ◌+◌, ◌*◌, ◌^◌, ◌<◌, ◌≤◌, length, IfSome, if◌then◌else◌};
+ghost use Rattle.least.specs.Fewest.{fewest};
 ghost use Rattle.planner.specs.Asking.{bytes_off, bytes_on};
 ghost use Rattle.planner.specs.Looking.{Fitting, LookedBy, Readable, touched};
 ghost use Rattle.planner.specs.Survey.{below, erased_from, kept, kept_from, on_from, preset_off, preset_on};
@@ -8,24 +9,61 @@ ghost use Rattle.planner.specs.Survey.{below, erased_from, kept, kept_from, on_f
 use crate::look::{both_pages, read_page, touches};
 use crate::overlay::Write;
 use crate::page::{blank, page_cost};
-use least::cost::{Cost, at_most};
+use least::cost::{Cost, ERASE, NOTHING, at_most};
 use part::part::Part;
+use std::ops::AddAssign;
+
+// Both together, where neither count passes the largest number.
+fn plus(a: Cost, b: Cost) -> Cost
+    requires { (a.0 + b.0 < 2 ^ 64) × (a.1 + b.1 < 2 ^ 64) }
+    ensures { result ≡ fewest.plus a b }
+{
+    (a.0 + b.0, a.1 + b.1)
+}
+
+// What pages cost, and what the presets cost of those that the write touches.
+#[derive(Clone, Copy)]
+pub struct Costs {
+    pub cost: Cost,
+    pub presets: Cost,
+}
+
+impl Costs {
+    pub const NONE: Costs = Costs {
+        cost: NOTHING,
+        presets: NOTHING,
+    };
+}
+
+impl AddAssign for Costs {
+    ghost can_add_assign = { λ a b. (a.cost.0 + b.cost.0 < 2 ^ 64) × (a.cost.1 + b.cost.1 < 2 ^ 64) × (a.presets.0 + b.presets.0 < 2 ^ 64) × (a.presets.1 + b.presets.1 < 2 ^ 64) };
+
+    ghost add_assign_gives = { λ a b r. (r.cost ≡ fewest.plus a.cost b.cost) × (r.presets ≡ fewest.plus a.presets b.presets) };
+
+    fn add_assign(&mut self, other: Costs) {
+        self.cost = plus(self.cost, other.cost);
+        self.presets = plus(self.presets, other.presets);
+    }
+}
 
 // Page q as it stands, and once erased if the write touches it: a page that it does not touch costs nothing to keep.
-fn page_costs<P: Part>(part: &mut P, write: Write<'_>, q: usize) -> (Cost, Cost)
+fn page_costs<P: Part>(part: &mut P, write: Write<'_>, q: usize) -> Costs
     requires { Fitting (P.Part.meaning part.old) write.address write.bytes.now × Readable (P.Part.meaning part.old) q }
     ensures looked { LookedBy P.Part.meaning P.Part.trace P.Part.intact (if touched write.entry.address write.entry.bytes.now q then 64 else 0) part.old part.new }
-    ensures keeping { (result.0.0 ≤ 1) × (result.0.1 ≤ 64) }
-    ensures erased { (result.1.0 ≤ 1) × (result.1.1 ≤ 64) }
-    ensures apart { let n = if touched write.entry.address write.entry.bytes.now q then 64 else 0 in (64 * result.1.0 ≤ n) × (result.1.1 ≤ n) }
-    ensures kept { P.Part.intact part.old → result.0 ≡ kept (P.Part.meaning part.old) write.entry.address write.entry.bytes.now q }
-    ensures preset { P.Part.intact part.old → result.1 ≡ preset_on (P.Part.meaning part.old) write.entry.address write.entry.bytes.now q }
+    ensures keeping { (result.cost.0 ≤ 1) × (result.cost.1 ≤ 64) }
+    ensures erased { (result.presets.0 ≤ 1) × (result.presets.1 ≤ 64) }
+    ensures apart { let n = if touched write.entry.address write.entry.bytes.now q then 64 else 0 in (64 * result.presets.0 ≤ n) × (result.presets.1 ≤ n) }
+    ensures kept { P.Part.intact part.old → result.cost ≡ kept (P.Part.meaning part.old) write.entry.address write.entry.bytes.now q }
+    ensures preset { P.Part.intact part.old → result.presets ≡ preset_on (P.Part.meaning part.old) write.entry.address write.entry.bytes.now q }
 {
     if !touches(write, q) {
-        return ((0, 0), (0, 0));
+        return Costs::NONE;
     }
     let (old, new) = both_pages(part, write, q);
-    (page_cost(&old, &new), page_cost(&blank(), &new))
+    Costs {
+        cost: page_cost(&old, &new),
+        presets: page_cost(&blank(), &new),
+    }
 }
 
 // Page q once erased, if the write does not touch it.
@@ -37,7 +75,7 @@ fn rest_cost<P: Part>(part: &mut P, write: Write<'_>, q: usize) -> Cost
     ensures value { P.Part.intact part.old → result ≡ preset_off (P.Part.meaning part.old) write.entry.address write.entry.bytes.now q }
 {
     if touches(write, q) {
-        return (0, 0);
+        return NOTHING;
     }
     let page = read_page(part, q);
     page_cost(&blank(), &page)
@@ -49,24 +87,21 @@ pub(crate) fn touched_costs<P: Part>(
     write: Write<'_>,
     first: usize,
     count: usize,
-) -> (Cost, Cost)
+) -> Costs
     requires fitting { Fitting (P.Part.meaning part.old) write.address write.bytes.now }
     requires count_bound { first + count ≤ (P.Part.meaning part.old).shape.sectors * (P.Part.meaning part.old).shape.pages }
     ensures looked { LookedBy P.Part.meaning P.Part.trace P.Part.intact (bytes_on write.entry.address write.entry.bytes.now first count) part.old part.new }
-    ensures keeping { (result.0.0 ≤ count) × (result.0.1 ≤ 64 * count) }
-    ensures erased { (result.1.0 ≤ count) × (result.1.1 ≤ 64 * count) }
-    ensures apart { let n = bytes_on write.entry.address write.entry.bytes.now first count in (64 * result.1.0 ≤ n) × (result.1.1 ≤ n) }
-    ensures kept { P.Part.intact part.old → result.0 ≡ kept_from (P.Part.meaning part.old) write.entry.address write.entry.bytes.now first count }
-    ensures presets { P.Part.intact part.old → result.1 ≡ on_from (P.Part.meaning part.old) write.entry.address write.entry.bytes.now first count }
+    ensures keeping { (result.cost.0 ≤ count) × (result.cost.1 ≤ 64 * count) }
+    ensures erased { (result.presets.0 ≤ count) × (result.presets.1 ≤ 64 * count) }
+    ensures apart { let n = bytes_on write.entry.address write.entry.bytes.now first count in (64 * result.presets.0 ≤ n) × (result.presets.1 ≤ n) }
+    ensures kept { P.Part.intact part.old → result.cost ≡ kept_from (P.Part.meaning part.old) write.entry.address write.entry.bytes.now first count }
+    ensures presets { P.Part.intact part.old → result.presets ≡ on_from (P.Part.meaning part.old) write.entry.address write.entry.bytes.now first count }
 {
-    let mut keep: Cost = (0, 0);
-    let mut presets: Cost = (0, 0);
-    for j in 0..count {
-        let (kept, preset) = page_costs(part, write, first + j);
-        keep = (keep.0 + kept.0, keep.1 + kept.1);
-        presets = (presets.0 + preset.0, presets.1 + preset.1);
+    let mut costs = Costs::NONE;
+    for q in first..first + count {
+        costs += page_costs(part, write, q);
     }
-    (keep, presets)
+    costs
 }
 
 // An erase and then presets of pages, if that is below a limit, from the presets of those that the write touches. Costs only
@@ -87,13 +122,12 @@ pub(crate) fn erase_costs<P: Part>(
     ensures apart { let n = bytes_off write.entry.address write.entry.bytes.now first count in IfSome result (λ cost. (64 * cost.0 ≤ 64 + 64 * presets.0 + n) × (cost.1 ≤ presets.1 + n)) }
     ensures value { P.Part.intact part.old → presets ≡ on_from (P.Part.meaning part.old) write.entry.address write.entry.bytes.now first count → result ≡ below limit (erased_from (P.Part.meaning part.old) write.entry.address write.entry.bytes.now first count) }
 {
-    let mut cost = (1 + presets.0, presets.1);
-    for j in 0..count {
+    let mut cost = plus(ERASE, presets);
+    for q in first..first + count {
         if at_most(limit, cost) {
             return None;
         }
-        let page = rest_cost(part, write, first + j);
-        cost = (cost.0 + page.0, cost.1 + page.1);
+        cost = plus(cost, rest_cost(part, write, q));
     }
     if at_most(limit, cost) {
         None

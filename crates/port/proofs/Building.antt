@@ -1,8 +1,10 @@
 -- Frames put together, and taken apart again.
-use Rattle.std.proofs.Common.{◌≡◌, ℕ, zero, suc, ◌+◌, ◌-◌, ◌*◌, ◌/◌, ◌%◌, ◌<◌, ◌≤◌, Bool, true, false, cond, ◌&&◌, eqb, ltb, leb, List, [], ◌∷◌, ◌++◌, length, take, drop, set, replicate, Some, sym, refl, ap, ◌∙◌, ap₂, arith, length-append}
+use Rattle.std.proofs.Common.{◌≡◌, ℕ, zero, suc, ◌+◌, ◌-◌, ◌*◌, ◌/◌, ◌%◌, ◌<◌, ◌≤◌, ◌^◌, Bool, true, false, cond, ◌&&◌, eqb, ltb, leb, List, [], ◌∷◌, ◌++◌, length, take, drop, set, replicate, Some, sym, refl, ap, ◌∙◌, subst, ap₂, arith, lit≤, length-append}
 use borrow.Rule.Slice.PartMut.{put_mid}
 use lib.ListN.{length-replicate}
-use Rattle.std.proofs.lemmas.List.{append_assoc, drop-set, drop-drop, take_all, take_at, drop_at}
+use Rattle.std.proofs.Math.Nat.{div-div-eq-div-mul, pow-succ'}
+use Rattle.std.specs.Int.{byte_at, bytes_high_first}
+use Rattle.std.proofs.lemmas.List.{append_assoc, drop-drop, take_all, take_at, drop_at}
 use Rattle.std.proofs.lemmas.Bool.{cond-true, le-leb, lt-ltb}
 use Rattle.port.specs.declared.instruction.Operation.{Operation}
 use Rattle.port.specs.declared.instruction.Operation.TheVariants.{WriteEnable, WriteDisable, ReadStatus, Identify, Read, FastRead, Program, Alter, Preset, SectorErase, BulkErase}
@@ -16,19 +18,44 @@ pub length-high_first : (n a : ℕ) → length (high_first n a) ≡ n
 length-high_first zero a = refl
 length-high_first (suc n) a = length-append (high_first n (a / 256)) _ ∙ (let e = length-high_first n (a / 256) in omega arith)
 
--- one more byte of the address, from the lowest on
-byte_more : (j rest : ℕ) (into : List ℕ) → j < length into
-    → high_first (suc j) rest ++ drop (suc j) into ≡ high_first j (rest / 256) ++ drop j (set into j (rest % 256))
-byte_more j rest into h =
-    let e : j + 1 ≡ suc j = omega arith in
-    append_assoc (high_first j (rest / 256)) (rest % 256 ∷ []) (drop (suc j) into)
-    ∙ ap (λ x. high_first j (rest / 256) ++ x) (sym (drop-set into j (rest % 256) h ∙ ap (λ i. rest % 256 ∷ drop i into) e))
+-- the bytes of an address, as the library has them
+byte_up : (k a : ℕ) → byte_at (suc k) a ≡ byte_at k (a / 256)
+byte_up zero a = refl
+byte_up (suc k) a = ap (λ n. a / n % 256) (pow-succ' 256 (suc k)) ∙ ap (λ n. n % 256) (sym (div-div-eq-div-mul a 256 (256 ^ suc k)))
 
-pub address_more : (i rest : ℕ) (into : List ℕ) → 0 < i → i ≤ length into
-    → high_first i rest ++ drop i into ≡ high_first (i - 1) (rest / 256) ++ drop (i - 1) (set into (i - 1) (rest % 256))
-address_more i rest into h l =
-    let e : i ≡ suc (i - 1) = omega arith in
-    ap (λ x. high_first x rest ++ drop x into) e ∙ byte_more (i - 1) rest into (omega arith)
+one_lower : (k a : ℕ) → bytes_high_first (suc k) a ≡ bytes_high_first k (a / 256) ++ (a % 256 ∷ [])
+one_lower zero a = refl
+one_lower (suc k) a = ap₂ (λ x xs. x ∷ xs) (byte_up k a) (one_lower k a)
+
+high_first_is : (k a : ℕ) → bytes_high_first k a ≡ high_first k a
+high_first_is zero a = refl
+high_first_is (suc k) a = one_lower k a ∙ ap (λ xs. xs ++ (a % 256 ∷ [])) (high_first_is k (a / 256))
+
+lowest_bytes : (m k n a : ℕ) → n ≡ m + k → drop m (bytes_high_first n a) ≡ bytes_high_first k a
+lowest_bytes zero k n a e = let f : n ≡ k = omega arith in ap (λ i. bytes_high_first i a) f
+lowest_bytes (suc m) k zero a e = absurd (omega arith)
+lowest_bytes (suc m) k (suc n) a e = lowest_bytes m k n a (omega arith)
+
+pub lowest_first : (k a : ℕ) → k ≤ 8 → drop (8 - k) (bytes_high_first 8 a) ≡ high_first k a
+lowest_first k a h = lowest_bytes (8 - k) k 8 a (omega arith) ∙ high_first_is k a
+
+-- no instruction has a longer address
+listed_most : (o : Operation) → (listed o).address ≤ 3
+unfolding table listed
+listed_most WriteEnable = lit≤ tt
+listed_most WriteDisable = lit≤ tt
+listed_most ReadStatus = lit≤ tt
+listed_most Identify = lit≤ tt
+listed_most Read = lit≤ tt
+listed_most FastRead = lit≤ tt
+listed_most Program = lit≤ tt
+listed_most Alter = lit≤ tt
+listed_most Preset = lit≤ tt
+listed_most SectorErase = lit≤ tt
+listed_most BulkErase = lit≤ tt
+
+pub address_most : (o : Operation) (i : Instruction) → i ≡ listed o → i.address ≤ 3
+address_most o i e = subst (λ (x : Instruction). x.address ≤ 3) (sym e) (listed_most o)
 
 -- a part written after a front
 after_front : (p q ys : List ℕ) (a k : ℕ) → length p ≡ a → put_mid a k (p ++ q) ys ≡ (p ++ ys) ++ drop k q

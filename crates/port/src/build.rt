@@ -26,18 +26,17 @@ impl Instruction {
 
 // The lowest bytes of an address, the highest first, as many as the buffer takes.
 fn write_address(address: usize, into: &mut [u8])
+    requires { length into.old ≤ 8 }
     ensures { into.new ≡ high_first (length into.old) address }
 {
-    let mut rest = address;
-    for i in (0..into.len()).rev() {
-        into[i] = (rest % 256) as u8;
-        rest /= 256;
-    }
+    let bytes = address.to_be_bytes();
+    into.copy_from_slice(&bytes[bytes.len() - into.len()..]);
 }
 
 // The code, the address, the dummy bytes and the data, at the buffer's start.
 fn lay_out(row: Instruction, address: usize, data: &[u8], into: &mut [u8])
-    requires { 1 + row.address + row.dummy + length «data».now ≤ length into.old }
+    requires address { row.address ≤ 8 }
+    requires room { 1 + row.address + row.dummy + length «data».now ≤ length into.old }
     ensures { into.new ≡ headed row address «data».now ++ drop (1 + row.address + row.dummy + length «data».now) into.old }
 {
     let dummy = 1 + row.address as usize;

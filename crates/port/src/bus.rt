@@ -35,12 +35,7 @@ impl<L, R> Bus<L, R> {
     pub fn release(self) -> (L, R)
         ensures { (result.0 ≡ self.first) × (result.1 ≡ self.second) }
     {
-        let Bus {
-            first,
-            second,
-            chosen: _,
-        } = self;
-        (first, second)
+        (self.first, self.second)
     }
 }
 

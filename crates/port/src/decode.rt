@@ -10,7 +10,7 @@ use memory::kind::Kind;
 fn address_of(a2: u8, a1: u8, a0: u8) -> usize
     ensures { result ≡ a2 * 65536 + a1 * 256 + a0 }
 {
-    a2 as usize * 65536 + a1 as usize * 256 + a0 as usize
+    u32::from_be_bytes([0, a2, a1, a0]) as usize
 }
 
 // What an instruction asks at an address, with data.

@@ -82,12 +82,12 @@ module _ {P : Type 0} (meaning : P → Meaning) (trace : P → P → List Event 
       -- what holds of an error holds of the one that `?` made of it
       pub carried_as : (a b : P) (r : Result (ℕ × ℕ) WriteFault) (fault : WriteFault) → IsErrAnd r (λ f. f ≡ fault) → Here a b (Err fault) → Here a b r
       carried_as a b r fault e h =
-          let p = err_from_is_err_and r e in subst (λ (x : Result (ℕ × ℕ) WriteFault). Here a b x) (sym (p.1 ∙ ap Err p.2)) h
+          let p = err_from_is_err_and r e in rw (p.1, p.2) h
 
       handed : (a : P) (r : Result (ℕ × ℕ) PlanFault) → idle (meaning a) ≡ true
           → Handed (plan_call (meaning a) address bytes (length steps) (length sent)) r steps steps' sent sent'
           → Handed (answer a) r steps steps' sent sent'
-      handed a r q h = subst (λ (x : Answer). Handed x r steps steps' sent sent') (call_idle (meaning a) address bytes (length steps) (length sent) q) h
+      handed a r q h = rw (call_idle (meaning a) address bytes (length steps) (length sent) q) at h
 
       pub carried-unplanned : (a b : P) (fault : PlanFault) → (meaning a).due ≡ 0 → Looked meaning trace intact a b
           → Handed (plan_call (meaning a) address bytes (length steps) (length sent)) (Err fault) steps steps' sent sent'
@@ -168,14 +168,13 @@ module _ {P : Type 0} (meaning : P → Meaning) (trace : P → P → List Event 
             abandoned k s cost list fresh plan.is plan.filled lt split (did_over fresh [] _ a y (so_far wait sends)) idle step over stop
 
       -- a plan that was handed out, and the run of the buffers' fronts, as long as its cost says
-      pub carried-ran : (a mid to : P) (cost : ℕ × ℕ) (r : Result ℕ RunFault) → Sound (meaning a) → ((i : ℕ) → get_or bytes i 0 < 256)
+      pub carried-ran : (a mid to : P) (cost : ℕ × ℕ) (n d : ℕ) (r : Result ℕ RunFault) → Sound (meaning a) → ((i : ℕ) → get_or bytes i 0 < 256)
           → allowed limit ≡ true → (meaning a).due ≡ 0 → intact a → Looked meaning trace intact a mid
           → Handed (plan_call (meaning a) address bytes (length steps) (length sent)) (Ok cost) steps steps' sent sent'
-          → Ran meaning trace intact (take cost.1 sent') limit (take cost.0 steps') mid to r → Here a to (ended cost r)
-      carried-ran a mid to cost r S small on' q i look h x =
+          → ◌≡◌ {A = ℕ × ℕ} (n, d) cost → Ran meaning trace intact (take d sent') limit (take n steps') mid to r → Here a to (ended cost r)
+      carried-ran a mid to cost n d r S small on' q i look h e x =
           let plan = handed_plan a cost S small (eq-eqb _ _ q) h in
-          carried_run a mid cost plan q on' i look to r
-          (subst (λ (l : List Step). Ran meaning trace intact plan.fresh limit l mid to r)
-          (ap (take cost.0) plan.filled.0 ∙ take_at plan.list _ cost.0 (omega (arith, ap (λ (y : ℕ × ℕ). y.0) plan.counts)))
-          (subst (λ (l : List ℕ). Ran meaning trace intact l limit (take cost.0 steps') mid to r)
-          (ap (take cost.1) plan.filled.1 ∙ take_at plan.fresh _ cost.1 (omega (arith, ap (λ (y : ℕ × ℕ). y.1) plan.counts))) x))
+          let counts : ◌≡◌ {A = ℕ × ℕ} (n, d) (length plan.list, length plan.fresh) = e ∙ plan.counts in
+          let list : take n steps' ≡ plan.list = ap (take n) plan.filled.0 ∙ take_at plan.list _ n (omega (arith, ap (λ (y : ℕ × ℕ). y.0) counts)) in
+          let fresh : take d sent' ≡ plan.fresh = ap (take d) plan.filled.1 ∙ take_at plan.fresh _ d (omega (arith, ap (λ (y : ℕ × ℕ). y.1) counts)) in
+          carried_run a mid cost plan q on' i look to r (rw (list, fresh) at x)

@@ -1,5 +1,5 @@
 -- No step of a plan is refused: its data lie in the buffer, and the part accepts its cycle.
-use Rattle.std.proofs.Common.{◌≡◌, ℕ, zero, suc, ◌+◌, ◌<◌, ◌≤◌, Bool, true, false, cond, not, leb, List, [], ◌∷◌, ◌++◌, length, get_or, take, drop, is_some, Some, None, Option, sym, refl, ap, ◌∙◌, subst, ap₂, append_assoc, add-one, arith, length-append, take-append-drop}
+use Rattle.std.proofs.Common.{◌≡◌, ℕ, zero, suc, ◌+◌, ◌<◌, ◌≤◌, Bool, true, false, cond, not, leb, List, [], ◌∷◌, ◌++◌, length, take, drop, is_some, Some, None, Option, sym, refl, ap, ◌∙◌, subst, append_assoc, add-one, arith, length-append, take-append-drop}
 use Rattle.std.proofs.lemmas.List.{map-append}
 use Rattle.std.proofs.lemmas.Bool.{and_parts, le-leb}
 use Rattle.memory.specs.declared.kind.Kind.{Kind}
@@ -111,19 +111,13 @@ unrefused a b list fresh wanted k s fault made goes lt split shape guarded due l
         (sym (ap (λ l. accepted a.shape (protected_at a) l a.image) listed) ∙ goes.0))
 
     here : accepts b.shape (protected_at b) (step_cycle fresh s) b.image ≡ true
-    here =
-        ap₂ (λ (m : Shape) (gs : List Bool). accepts m (λ i. get_or gs i false) (step_cycle fresh s) b.image) shape guarded ∙ taken
+    here = rw (shape, guarded) taken
 
     split' : take (suc k) (steps_from 0 made.cycles) ≡ take k (steps_from 0 made.cycles) ++ s ∷ []
-    split' = subst (λ (l : List Step). take (suc k) l ≡ take k l ++ s ∷ []) made.steps (subst (λ n. take n list ≡ take k list ++ s ∷ []) (add-one k) split)
+    split' = rw (made.steps, add-one k) at split
 
     within : s.place + s.length ≤ length fresh
-    within =
-        omega (
-          arith,
-          lies_among made.cycles 0 k s split' (subst (λ (l : List Step). k < length l) made.steps lt),
-          ap length made.bytes,
-        )
+    within = omega (arith, lies_among made.cycles 0 k s split' (rw made.steps at lt), ap length made.bytes)
 
     none : step_verdict b fresh s ≡ None
     none =

@@ -27,14 +27,16 @@ fn carry_out<P: Part>(
     requires byte { (i : ℕ) → slice_index bytes.now i < 256 }
     ensures { P.Part.intact part.old → Carried P.Part.meaning P.Part.trace P.Part.intact limit address bytes.now (buffers steps.old steps.new «data».old «data».new) part.old part.new result }
 {
-    let (cycles, sent) = plan(part, address, bytes, steps, data)?;
+    let cost = plan(part, address, bytes, steps, data)?;
+    let (cycles, sent) = cost;
     run(part, &steps[..cycles], &data[..sent], limit)?;
-    Ok((cycles, sent))
+    Ok(cost)
 }
 
 // Writes bytes at an address at the least cost, and answers it: cycles and data bytes sent. The checks in their order: the
 // limit, the range, polls due beyond the limit, a protected change, room for the steps, room for the data, polls due beyond
 // the limit after a cycle. A done write leaves in both buffers the plan that was sent, and so does an abandoned one.
+// (The step list and the data buffer stay two parameters: each is lent on its own, with a refusal number of its own.)
 pub fn write<P: Part>(
     part: &mut P,
     address: usize,

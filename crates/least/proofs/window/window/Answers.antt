@@ -1,48 +1,48 @@
-use Rattle.std.proofs.Common.{◌+◌, ◌-◌, refl, subst, arith}
+use Rattle.std.proofs.Common.{◌+◌, ◌-◌, None, ap, refl, subst, arith}
 use Rattle.least.specs.Window.{Shortest}
 use Rattle.least.proofs.Scans.{scan_first, scan_same, scan_better, scan-kept, scan-straight, scan_round}
 use Rattle.least.proofs.Windows.{window_is}
 use Rattle.least.proofs.window.window.Goals as goal
 
--- src/window.rt:27:9
-pub returns-in_default : goal.returns-in_default
-returns-in_default c =
-    record { value = window_is _ _ _ _ refl c.in_default.ensures; words = c.in_default.ensures }
+pub returns-in_err-first : goal.returns-in_err-first
+returns-in_err-first c =
+    rw c.from_residual.ensures
+    (record { value = window_is _ _ _ None refl c.in_err-first.ensures; words = c.in_err-first.ensures })
 
 pub loop-place-init : goal.loop-place-init
 loop-place-init c =
-    let h = c.in-Some.ensures in
-    scan_first c.min-size.result c.args.old.now c.args.new.now c.in-Some.first (omega (arith, h.0)) h.1 h.2
+    let h = c.in_ok-first.ensures in
+    scan_first c.min-size.result c.args.old.now c.args.new.now c.in_ok-first.first (omega (arith, h.0)) h.1 h.2
 
 -- src/window.rt:34:5
 pub loop-place-preserved : goal.loop-place-preserved
 loop-place-preserved c =
     elim c.if-old-place.branch [
-      | goal.then-old-place+then-round-length w ↦
-          rw (w.last-is, w.start-is, w.length-is)
-          (scan_better _ _ _ _ _ _ _ _ c.loop-place.invariant (omega arith) w.if-old-place.true (omega (arith, w.if-round-length.true)))
-      | goal.then-old-place+else-round-length w ↦
-          rw (w.last-is, w.start-is, w.length-is)
-          (scan-kept _ _ _ _ _ _ _ _ c.loop-place.invariant (omega arith) w.if-old-place.true (omega (arith, w.if-round-length.false)))
+      | goal.then-old-place+then-length-round w ↦
+          rw (w.last-is, w.round-is)
+          (scan_better _ _ _ _ _ _ _ _ c.loop-place.invariant (omega arith) w.if-old-place.true (omega (arith, w.if-length-round.true, ap (λ r. r.1) w.round.view_is)))
+      | goal.then-old-place+else-length-round w ↦
+          rw (w.last-is, w.round-is)
+          (scan-kept _ _ _ _ _ _ _ _ c.loop-place.invariant (omega arith) w.if-old-place.true (omega (arith, w.if-length-round.false, ap (λ r. r.1) w.round.view_is)))
       | goal.else-old-place w ↦
-          rw (w.last-is, w.start-is, w.length-is)
+          rw (w.last-is, w.round-is)
           (scan_same _ _ _ _ _ _ _ _ c.loop-place.invariant (omega arith) w.if-old-place.false)
     ]
 
 -- src/window.rt:22:1
-pub returns-then-straight-length : goal.returns-then-straight-length
-returns-then-straight-length c =
+pub returns-then-straight-round : goal.returns-then-straight-round
+returns-then-straight-round c =
     let run =
-    subst (λ z. Shortest z c.args.old.now c.args.new.now (c.in-Some.first, c.loop-place.last - c.in-Some.first + 1))
+    subst (λ z. Shortest z c.args.old.now c.args.new.now (c.in_ok-first.first, c.loop-place.last - c.in_ok-first.first + 1))
     c.min-size.ensures
-    (scan-straight _ _ _ _ _ _ _ _ c.loop-place.invariant c.loop-place-test.false (omega (arith, c.if-straight-length.true)))
+    (scan-straight _ _ _ _ _ _ _ _ c.loop-place.invariant c.loop-place-test.false (omega (arith, c.if-straight-round.true, ap (λ r. r.1) c.round-2.view_is)))
     in record { value = window_is _ _ _ _ refl run; words = run }
 
 -- src/window.rt:22:1
-pub returns-else-straight-length : goal.returns-else-straight-length
-returns-else-straight-length c =
+pub returns-else-straight-round : goal.returns-else-straight-round
+returns-else-straight-round c =
     let run =
-    subst (λ z. Shortest z c.args.old.now c.args.new.now (c.loop-place.start, c.loop-place.length))
+    subst (λ z. Shortest z c.args.old.now c.args.new.now (c.loop-place.round.0, c.loop-place.round.1))
     c.min-size.ensures
-    (scan_round _ _ _ _ _ _ _ _ c.loop-place.invariant c.loop-place-test.false (omega (arith, c.if-straight-length.false)))
+    (scan_round _ _ _ _ _ _ _ _ c.loop-place.invariant c.loop-place-test.false (omega (arith, c.if-straight-round.false, ap (λ r. r.1) c.round-2.view_is)))
     in record { value = window_is _ _ _ _ refl run; words = run }

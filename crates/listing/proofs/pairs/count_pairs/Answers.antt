@@ -1,34 +1,41 @@
-use Rattle.std.proofs.Common.{◌≡◌, ◌+◌, ◌<◌, length, drop, sym, ap, ◌∙◌, arith}
+use Rattle.std.proofs.Common.{◌≡◌, ◌+◌, drop, sym, ap, ◌∙◌, Err, arith}
+use Rattle.std.proofs.lemmas.Result.{err_from_is_err_and}
 use Rattle.listing.specs.Values.{values, tallied}
+use Rattle.listing.proofs.Drops.{no_pair, one_pair}
 use Rattle.listing.proofs.Spelling.{values_none, values_last, values_more, values-broken, tallied-before}
 use Rattle.listing.proofs.pairs.count_pairs.Goals as goal
 
-pub returns-in_default : goal.returns-in_default
-returns-in_default c =
+pub returns-in_err-ok_or : goal.returns-in_err-ok_or
+returns-in_err-ok_or c =
     let t = c.args.pairs.now in
-    sym (c.loop-count.invariant.0 ∙ ap (tallied c.loop-count.count) (values_none t c.loop-count.at (sym c.in_default.ensures.value)))
+    let p = err_from_is_err_and c.from_residual.result c.from_residual.ensures.1 in
+    let n = no_pair t c.loop-count.at c.pair.ensures.value c.broken.result c.in_err-ok_or.ensures.value in
+    rw (p.1, p.2) (ap Err (n.1 ∙ c.broken.ensures) ∙ sym (c.loop-count.invariant.0 ∙ ap (tallied c.loop-count.count) (values_none t c.loop-count.at n.0)))
 
-pub returns-then-at-pairs : goal.returns-then-at-pairs
-returns-then-at-pairs c =
+pub returns-in-None : goal.returns-in-None
+returns-in-None c =
     let t = c.args.pairs.now in
-    sym (c.loop-count.invariant.0 ∙ ap (tallied c.loop-count.count) (values_last t c.loop-count.at c.in-Some.field-0 (sym c.in-Some.ensures.value) (omega arith)))
+    let v = one_pair t c.loop-count.at c.pair.ensures.value c.broken.result c.in_ok-ok_or.ensures.value in
+    sym (c.loop-count.invariant.0 ∙ ap (tallied c.loop-count.count) (values_last t c.loop-count.at c.in_ok-ok_or.field-0 v c.in-None.ensures.lookup.3))
 
-pub returns-then-pairs-at-ne32 : goal.returns-then-pairs-at-ne32
-returns-then-pairs-at-ne32 c =
+pub returns-in-Some : goal.returns-in-Some
+returns-in-Some c =
     let t = c.args.pairs.now in
-    let w = c.in-Some.ensures.within in
-    let l : c.loop-count.at + 2 < length t = omega arith in
-    sym (c.loop-count.invariant.0 ∙ ap (tallied c.loop-count.count) (values-broken t c.loop-count.at c.in-Some.field-0 (sym c.in-Some.ensures.value) l c.if-pairs-at-ne32.true))
+    let v = one_pair t c.loop-count.at c.pair.ensures.value c.broken.result c.in_ok-ok_or.ensures.value in
+    let l = c.in-Some.ensures.lookup.3 in
+    ap Err c.broken-in-Some.ensures ∙ sym (c.loop-count.invariant.0 ∙ ap (tallied c.loop-count.count) (values-broken t c.loop-count.at c.in_ok-ok_or.field-0 v l.0 (λ e. c.in-Some.field-0-test.1 (l.1 0 ∙ e))))
 
 pub loop-count-preserved : goal.loop-count-preserved
 loop-count-preserved c =
     let t = c.args.pairs.now in
-    let w = c.in-Some.ensures.within in
-    let l : c.loop-count.at + 2 < length t = omega arith in
+    let v = one_pair t c.loop-count.at c.pair.ensures.value c.broken.result c.in_ok-ok_or.ensures.value in
+    let l = c.in-Some-eq32.ensures.lookup.3 in
+    let a = l.0 in
+    let s = sym (l.1 0) ∙ c.in-Some-eq32.field-0-test in
     let h : c.loop-count.at + 3 ≡ c.loop-count.at + 2 + 1 = omega arith in (
       c.loop-count.invariant.0
-          ∙ ap (tallied c.loop-count.count) (values_more t c.loop-count.at c.in-Some.field-0 (sym c.in-Some.ensures.value) l c.if-pairs-at-ne32.false)
-          ∙ tallied-before c.loop-count.count c.in-Some.field-0 (values (c.loop-count.at + 3) (drop (c.loop-count.at + 3) t))
+          ∙ ap (tallied c.loop-count.count) (values_more t c.loop-count.at c.in_ok-ok_or.field-0 v l.0 s)
+          ∙ tallied-before c.loop-count.count c.in_ok-ok_or.field-0 (values (c.loop-count.at + 3) (drop (c.loop-count.at + 3) t))
           ∙ ap (λ n. tallied (c.loop-count.count + 1) (values n (drop n t))) h,
       omega arith,
       omega arith,

@@ -1,49 +1,40 @@
-use Rattle.std.proofs.Common.{◌<◌, ◌≤◌, length, Ok, Err, sym, ap, ◌∙◌, arith}
+use Rattle.std.proofs.Common.{◌≡◌, ◌≤◌, length, sym, ap, ◌∙◌, arith, rules}
 use Rattle.least.specs.Steps.{cycles_of}
-use Rattle.listing.specs.declared.plan_fault.PlanListingFault.TheVariants.{TextShort}
-use Rattle.listing.specs.PlanFrames.{plan_text, answered, kept}
-use Rattle.listing.proofs.Laying.{laid_start, over-fits, over-short}
-use Rattle.listing.proofs.Planned.{answer-fits, answer-short}
+use Rattle.listing.specs.PlanFault.{first_unlisted}
+use Rattle.listing.specs.PlanFrames.{plan_text, kept}
+use Rattle.listing.proofs.Laying.{laid_start, over-fits}
+use Rattle.listing.proofs.Planned.{checked_none}
 use Rattle.listing.proofs.Played.{has_effect}
 use Rattle.listing.proofs.Sendings.{plan-reads}
+use Rattle.listing.proofs.Sheets.{sheet_text}
 use Rattle.listing.proofs.plan.list_plan.Goals as goal
 
-pub returns-in-Some : goal.returns-in-Some
-returns-in-Some c =
-    let d = c.args.data.now in
-    let s = c.args.steps.now in
-    let e = c.in-Some.ensures in
-    record {
-      answer = ap (λ o. answered o (plan_text d s) (length c.args.into.now)) e;
-      buffer = ap (λ o. kept o (plan_text d s) c.args.into.now) e;
-      reads = plan-reads d s (λ i. omega (arith, c.type_inv.data i));
-      effect = has_effect (cycles_of d s);
-    }
+pub returns-in_err-check_steps-clause-reads : goal.returns-in_err-check_steps-clause-reads
+returns-in_err-check_steps-clause-reads c = plan-reads c.args.data.now c.args.steps.now (λ i. omega (arith, c.type_inv.data i))
 
-pub returns-then-into-needed : goal.returns-then-into-needed
-returns-then-into-needed c =
+pub returns-in_err-check_steps-clause-effect : goal.returns-in_err-check_steps-clause-effect
+returns-in_err-check_steps-clause-effect c = has_effect (cycles_of c.args.data.now c.args.steps.now)
+
+pub returns-then-into-needed-clause-reads : goal.returns-then-into-needed-clause-reads
+returns-then-into-needed-clause-reads c = plan-reads c.args.data.now c.args.steps.now (λ i. omega (arith, c.type_inv.data i))
+
+pub returns-then-into-needed-clause-effect : goal.returns-then-into-needed-clause-effect
+returns-then-into-needed-clause-effect c = has_effect (cycles_of c.args.data.now c.args.steps.now)
+
+pub returns-clause-buffer : goal.returns-clause-buffer
+returns-clause-buffer c =
     let d = c.args.data.now in
     let s = c.args.steps.now in
     let l = c.args.into.now in
-    let e = c.in_default.ensures in
-    let h : length l < length (plan_text d s) = omega arith in
-    record {
-      answer = ap (λ n. Err (TextShort n)) c.text_len-needed.ensures ∙ sym (answer-short (plan_text d s) (length l) h) ∙ ap (λ o. answered o (plan_text d s) (length l)) e;
-      buffer = sym (over-short (plan_text d s) l h) ∙ ap (λ o. kept o (plan_text d s) l) e;
-      reads = plan-reads d s (λ i. omega (arith, c.type_inv.data i));
-      effect = has_effect (cycles_of d s);
-    }
-
-pub returns : goal.returns
-returns c =
-    let d = c.args.data.now in
-    let s = c.args.steps.now in
-    let l = c.args.into.now in
-    let e = c.in_default.ensures in
+    let e = sym (checked_none (first_unlisted d s) c.in_ok-check_steps.ensures) in
     let h : length (plan_text d s) ≤ length l = omega arith in
-    record {
-      answer = ap (λ n. Ok n) c.put_steps.ensures.place ∙ sym (answer-fits (plan_text d s) (length l) h) ∙ ap (λ o. answered o (plan_text d s) (length l)) e;
-      buffer = c.put_steps.ensures.buffer ∙ laid_start (plan_text d s) l ∙ sym (over-fits (plan_text d s) l h) ∙ ap (λ o. kept o (plan_text d s) l) e;
-      reads = plan-reads d s (λ i. omega (arith, c.type_inv.data i));
-      effect = has_effect (cycles_of d s);
-    }
+    let t = sheet_text c.new-sheet.ensures.place c.new-sheet.ensures.buffer c.put_steps.ensures in
+    let n = c.put_steps.ensures.same ∙ c.new-sheet.ensures.same in
+    let b : c.put_steps.new.sheet.into.now ≡ kept (first_unlisted d s) (plan_text d s) l = t.1 ∙ laid_start (plan_text d s) l ∙ sym (over-fits (plan_text d s) l h) ∙ ap (λ o. kept o (plan_text d s) l) e in
+    search (rules, sym n, b)
+
+pub returns-clause-reads : goal.returns-clause-reads
+returns-clause-reads c = plan-reads c.args.data.now c.args.steps.now (λ i. omega (arith, c.type_inv.data i))
+
+pub returns-clause-effect : goal.returns-clause-effect
+returns-clause-effect c = has_effect (cycles_of c.args.data.now c.args.steps.now)

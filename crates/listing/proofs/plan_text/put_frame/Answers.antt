@@ -1,11 +1,12 @@
-use Rattle.std.proofs.Common.{◌≡◌, ℕ, ◌+◌, ◌-◌, List, length, take, drop, Ok, Result, ap, ◌∙◌, arith}
+use Rattle.std.proofs.Common.{◌≡◌, ℕ, ◌-◌, List, length, take, drop, Ok, Result, ap, ◌∙◌, arith}
 use Rattle.std.proofs.lemmas.List.{take_at}
 use Rattle.std.proofs.lemmas.Bool.{cond-true, le-leb}
 use Rattle.port.specs.declared.fault.PortFault.{PortFault}
 use Rattle.port.specs.Build.{built}
 use Rattle.listing.specs.Parts.{exchange}
-use Rattle.listing.specs.Writing.{line_text, laid}
+use Rattle.listing.specs.Writing.{line_text}
 use Rattle.listing.proofs.Planned.{some_bytes}
+use Rattle.listing.proofs.Sheets.{wrote_is}
 use Rattle.listing.proofs.plan_text.put_frame.Goals as goal
 
 same_ok : (m n : ℕ) → ◌≡◌ {A = Result ℕ PortFault} (Ok m) (Ok n) → m ≡ n
@@ -27,7 +28,4 @@ returns c =
     let n : c.in-Ok.n ≡ length f = same_ok _ _ (c.in-Ok.ensures.result ∙ cond-true _ _ _ (le-leb _ _ c.requires.short)) in
     let sent : List ℕ = take (c.in-Ok.n - 0) (drop 0 c.build.new.into) in
     let s : sent ≡ f = ap (take (c.in-Ok.n - 0)) c.in-Ok.ensures.bytes ∙ take_at f _ (c.in-Ok.n - 0) (omega arith) in
-    record {
-      place = c.put_bytes.ensures.place ∙ ap (λ x. c.args.at + length (line_text (exchange x 0))) s;
-      buffer = c.put_bytes.ensures.buffer ∙ ap (λ x. laid c.args.at (line_text (exchange x 0)) c.args.into.now) s;
-    }
+    wrote_is c.put_bytes.ensures (ap (λ x. line_text (exchange x 0)) s)

@@ -1,6 +1,4 @@
-use Rattle.std.proofs.Common.{length, sym, ap, ◌∙◌, arith}
-use Rattle.std.proofs.lemmas.List.{take_all}
-use Rattle.listing.specs.PlanFrames.{plan_text}
+use Rattle.std.proofs.Common.{length, sym, ap, arith}
 use Rattle.listing.proofs.Planned.{unlisted_at, text_none, size_more}
 use Rattle.listing.proofs.plan_text.text_len.Goals as goal
 
@@ -10,14 +8,8 @@ loop-step-init c = (sym (ap length (text_none c.args.data.now)), omega arith)
 pub step_len-requires : goal.step_len-requires
 step_len-requires c = unlisted_at c.args.data.now c.args.steps.now c.loop-step.step-index _ c.requires c.loop-step-test.true
 
-pub overflow_add-needed : goal.overflow_add-needed
-overflow_add-needed c = omega (arith, c.step_len.ensures.most)
-
 pub loop-step-preserved : goal.loop-step-preserved
 loop-step-preserved c =
     let m = c.step_len.ensures.most in
     let t = size_more c.args.data.now c.args.steps.now c.loop-step.step-index _ _ c.loop-step-test.true c.step_len.ensures.exact in
     (omega arith, omega arith)
-
-pub returns : goal.returns
-returns c = c.loop-step.invariant.0 ∙ ap (λ l. length (plan_text c.args.data.now l)) (take_all c.loop-step.step-index c.args.steps.now c.loop-step-test.false)

@@ -1,25 +1,23 @@
-use Rattle.std.proofs.Common.{arith}
-use Rattle.listing.proofs.Progress.{copying_fits, copying_more, copying_end, copying_goes, next_some, next_none, taken_less}
+use Rattle.std.proofs.Common.{sym, ◌∙◌, rules}
+use Rattle.listing.proofs.Progress.{copying_room, copying_more, copying_over, next_some}
 use Rattle.listing.proofs.rewrite.copy_kept.Goals as goal
 
-pub keep-at-requires : goal.keep-at-requires
-keep-at-requires c =
-    let t = next_some c.loop-next.reader.line c.next_line.new.self.line c.loop-next.reader.rest.now c.next_line.new.self.rest.now c.in-Ok.next c.in-Some.line c.in-Some.is c.in-Ok.ensures in
-    let k = copying_fits c.loop-next.invariant t in omega arith
+pub keep-requires : goal.keep-requires
+keep-requires c =
+    let t = next_some c.loop-line.reader.line c.next_line.new.self.line c.loop-line.reader.rest.now c.next_line.new.self.rest.now c.in-Ok-Some.field-0 c.in-Ok-Some.line c.in-Ok-Some.field-0-is c.in-Ok-Some.ensures in
+    copying_room c.loop-line.invariant.0 t
 
-pub loop-next-smaller : goal.loop-next-smaller
-loop-next-smaller c =
-    taken_less (next_some c.loop-next.reader.line c.next_line.new.self.line c.loop-next.reader.rest.now c.next_line.new.self.rest.now c.in-Ok.next c.in-Some.line c.in-Some.is c.in-Ok.ensures)
+pub loop-line-preserved : goal.loop-line-preserved
+loop-line-preserved c =
+    let t = next_some c.loop-line.reader.line c.next_line.new.self.line c.loop-line.reader.rest.now c.next_line.new.self.rest.now c.in-Ok-Some.field-0 c.in-Ok-Some.line c.in-Ok-Some.field-0-is c.in-Ok-Some.ensures in
+    (copying_more c.loop-line.invariant.0 t c.keep.ensures.buffer c.keep.ensures.place, c.keep.ensures.same ∙ c.loop-line.invariant.1)
 
-pub loop-next-preserved : goal.loop-next-preserved
-loop-next-preserved c =
-    let t = next_some c.loop-next.reader.line c.next_line.new.self.line c.loop-next.reader.rest.now c.next_line.new.self.rest.now c.in-Ok.next c.in-Some.line c.in-Some.is c.in-Ok.ensures in
-    copying_more c.loop-next.invariant t c.keep-at.ensures.buffer c.keep-at.ensures.place
+pub returns-in-loop-line : goal.returns-in-loop-line
+returns-in-loop-line c = λ is xs r.
+    let n = c.loop-line.invariant.1 ∙ c.new-sheet.ensures.same in
+    let b = copying_over c.next_line.new.self.line c.next_line.new.self.rest.now c.next_line.result c.loop-line.invariant.0 c.next_line.ensures (λ _ e. cc) is xs r in search (rules, sym n, b)
 
-pub returns-in_default : goal.returns-in_default
-returns-in_default c = let h = c.in_default.ensures in absurd (copying_goes c.loop-next.invariant h.1)
-
-pub returns-in_default-next : goal.returns-in_default-next
-returns-in_default-next c =
-    copying_end c.loop-next.invariant
-    (next_none c.loop-next.reader.line c.next_line.new.self.line c.loop-next.reader.rest.now c.next_line.new.self.rest.now c.in-Ok.next c.in_default-next.is c.in-Ok.ensures)
+pub returns-in-loop-line-2 : goal.returns-in-loop-line-2
+returns-in-loop-line-2 c = λ is xs r.
+    let n = c.loop-line.invariant.1 ∙ c.new-sheet.ensures.same in
+    let b = copying_over c.next_line.new.self.line c.next_line.new.self.rest.now c.next_line.result c.loop-line.invariant.0 c.next_line.ensures (λ _ e. cc) is xs r in search (rules, sym n, b)

@@ -1,6 +1,6 @@
 use Rattle.std.proofs.Common.{ℕ, ◌+◌, List, sym, subst, arith}
 use Rattle.std.proofs.lemmas.Result.{err_from_is_err_and}
-use Rattle.listing.proofs.Progress.{Progress, progress_start, progress_more, progress_end, progress_fails, kept-fits, next_some, next_none, taken_less}
+use Rattle.listing.proofs.Progress.{Progress, progress_start, progress_more, progress_end, progress_fails, kept-fits, next_some, next_none}
 use Rattle.listing.proofs.Single.{unambiguous}
 use Rattle.listing.proofs.rewrite.rewritten_len.Goals as goal
 
@@ -24,10 +24,6 @@ kept_len-needed-requires c = let k = kept-fits c.loop-line.invariant (next_some 
 pub overflow_add-needed : goal.overflow_add-needed
 overflow_add-needed c = let k = kept-fits c.loop-line.invariant (next_some c.loop-line.reader.line c.next_line.new.self.line c.loop-line.reader.rest.now c.next_line.new.self.rest.now
     c.in_ok-line.field-0 c.in-Some.line c.in-Some.is c.in_ok-line.ensures) in omega arith
-
-pub loop-line-smaller : goal.loop-line-smaller
-loop-line-smaller c = taken_less (next_some c.loop-line.reader.line c.next_line.new.self.line c.loop-line.reader.rest.now c.next_line.new.self.rest.now
-    c.in_ok-line.field-0 c.in-Some.line c.in-Some.is c.in_ok-line.ensures)
 
 pub loop-line-preserved : goal.loop-line-preserved
 loop-line-preserved c =

@@ -1,30 +1,17 @@
-use Rattle.std.proofs.Common.{arith}
-use Rattle.listing.proofs.Laying.{line-size, line-laid}
+use Rattle.listing.proofs.Sheets.{code_room, rest_room, back_room, end_room, line_wrote}
 use Rattle.listing.proofs.writer.put_line.Goals as goal
 
-pub put_pair-at-requires : goal.put_pair-at-requires
-put_pair-at-requires c = let f = c.args.frame in let e = line-size f.code f.rest.now f.back in omega arith
+pub put_pair-requires : goal.put_pair-requires
+put_pair-requires c = let f = c.args.frame in code_room c.args.sheet.now f.code f.back f.rest.now c.requires
 
-pub put_spaced-at-requires : goal.put_spaced-at-requires
-put_spaced-at-requires c = let f = c.args.frame in let e = line-size f.code f.rest.now f.back in omega arith
+pub put_spaced-requires : goal.put_spaced-requires
+put_spaced-requires c = let f = c.args.frame in rest_room c.args.sheet.now f.code f.back f.rest.now c.requires c.put_pair.ensures
 
-pub put_back-at-requires : goal.put_back-at-requires
-put_back-at-requires c = let f = c.args.frame in let e = line-size f.code f.rest.now f.back in omega arith
+pub put_back-requires : goal.put_back-requires
+put_back-requires c = let f = c.args.frame in back_room c.args.sheet.now f.code f.back f.rest.now c.requires c.put_pair.ensures c.put_spaced.ensures
 
 pub put-requires : goal.put-requires
-put-requires c = let f = c.args.frame in let e = line-size f.code f.rest.now f.back in omega arith
+put-requires c = let f = c.args.frame in end_room c.args.sheet.now f.code f.back f.rest.now c.requires c.put_pair.ensures c.put_spaced.ensures c.put_back.ensures
 
 pub returns : goal.returns
-returns c =
-    let f = c.args.frame in
-    let e = line-size f.code f.rest.now f.back in
-    record {
-      place = omega arith;
-      buffer =
-          line-laid c.args.at c.put_pair-at.result c.put_spaced-at.result c.put_back-at.result f.code f.back f.rest.now
-          c.args.into.now c.put_pair-at.new.into c.put_spaced-at.new.into c.put_back-at.new.into c.put.new.into (omega arith)
-          c.put_pair-at.ensures.buffer c.put_pair-at.ensures.place
-          c.put_spaced-at.ensures.buffer c.put_spaced-at.ensures.place
-          c.put_back-at.ensures.buffer c.put_back-at.ensures.place
-          c.put.ensures.buffer;
-    }
+returns c = let f = c.args.frame in line_wrote c.args.sheet.now f.code f.back f.rest.now c.requires c.put_pair.ensures c.put_spaced.ensures c.put_back.ensures c.put.ensures

@@ -5,8 +5,8 @@ use Rattle.memory.proofs.Covers.{length_merged}
 use Rattle.memory.proofs.Loops.{put_mid_lem}
 use Rattle.memory.proofs.page.write.Goals as goal
 
-pub returns : goal.returns
-returns c =
+pub returns-clause-after : goal.returns-clause-after
+returns-clause-after c =
     let a = c.args.address / 64 * 64 in
     let image = c.args.image.now in
     let n : a + 64 - a ≡ 64 = omega arith in
@@ -17,4 +17,4 @@ returns c =
     let l : length c.merge.new.bytes ≡ a + 64 - a =
     ap length m ∙ length_merged f (page 64 (c.args.address / 64) image) (cover 64 (c.args.address % 64) c.args.sent.now)
     ∙ simp (length-take, length-drop) (omega arith) in
-    record { after = put_mid_lem a (a + 64 - a) c.merge.new.bytes image l ∙ ap (λ x. put a x image) m; bytes = λ i. omega (arith, c.type_inv.image i) }
+    put_mid_lem a (a + 64 - a) c.merge.new.bytes image l ∙ ap (λ x. put a x image) m

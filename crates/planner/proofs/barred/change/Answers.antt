@@ -24,18 +24,19 @@ returns-then-not-touches g c =
           (sym (page_off m q c.requires.1 a b c.requires.0 (sym c.if-not-touches.ensures))) refl (λ i l. refl);
     }
 
-pub returns-in_default : goal.returns-in_default
-returns-in_default g c =
+pub returns-in_err-place : goal.returns-in_err-place
+returns-in_err-place g c =
     let m = g.P.Part.meaning c.args.part.now in
     let both = c.both_pages.ensures in
     let z : min (length c.both_pages.result.0) (length c.both_pages.result.1) ≡ 64 = omega (arith, both.long) in
-    record {
+    rw c.from_residual.ensures
+    (record {
       looked = both.looked;
       value =
           λ h.
           first_of c.args.q m.image (wanted m c.args.write.address c.args.write.bytes.now) c.both_pages.result.0 c.both_pages.result.1 _ None
-          (both.old h) (both.new h) z c.in_default.ensures;
-    }
+          (both.old h) (both.new h) z c.in_err-place.ensures;
+    })
 
 pub returns : goal.returns
 returns g c =
@@ -46,6 +47,6 @@ returns g c =
       looked = both.looked;
       value =
           λ h.
-          first_of c.args.q m.image (wanted m c.args.write.address c.args.write.bytes.now) c.both_pages.result.0 c.both_pages.result.1 _ (Some c.in-Some.place)
-          (both.old h) (both.new h) z c.in-Some.ensures;
+          first_of c.args.q m.image (wanted m c.args.write.address c.args.write.bytes.now) c.both_pages.result.0 c.both_pages.result.1 _ (Some c.in_ok-place.place)
+          (both.old h) (both.new h) z c.in_ok-place.ensures;
     }

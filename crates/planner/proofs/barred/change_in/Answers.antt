@@ -6,20 +6,20 @@ use Rattle.planner.proofs.Barrings.{first_more, first_later}
 use Rattle.planner.proofs.Lookings.{looked_none, looked_join}
 use Rattle.planner.proofs.barred.change_in.Goals as goal
 
-pub loop-j-init : goal.loop-j-init
-loop-j-init g c = (
+pub loop-q-init : goal.loop-q-init
+loop-q-init g c = (
   looked_none g.P.Part.meaning g.P.Part.trace g.P.Part.intact _ c.args.part.now (g.met.P.Part.stays c.args.part.now),
   λ _ a l u. absurd (omega arith),
 )
 
 pub returns-in-Some : goal.returns-in-Some
 returns-in-Some g c =
-    let inv = c.loop-j.invariant in
+    let inv = c.loop-q.invariant in
     let page = c.in-Some.ensures in
     let m = g.P.Part.meaning c.args.part.now in
     let a = c.args.write.address in
     let b = c.args.write.bytes.now in
-    let q = c.args.first + c.loop-j.j in
+    let q = c.loop-q.q in
     record {
       looked = looked_join g.P.Part.meaning g.P.Part.trace g.P.Part.intact g.met.P.Part.joins _ _ _ _ _ _ inv.0 page.looked (omega arith);
       value =
@@ -28,16 +28,16 @@ returns-in-Some g c =
           (subst (λ (x : Meaning). FirstIn (q * 64) (q * 64 + 64) x.image (wanted x a b) (Some c.in-Some.place)) inv.0.same (page.value (inv.0.keeps h)));
     }
 
-pub loop-j-preserved : goal.loop-j-preserved
-loop-j-preserved g c =
-    let inv = c.loop-j.invariant in
+pub loop-q-preserved : goal.loop-q-preserved
+loop-q-preserved g c =
+    let inv = c.loop-q.invariant in
     let page = c.in_default.ensures in
     let m = g.P.Part.meaning c.args.part.now in
     let a = c.args.write.address in
     let b = c.args.write.bytes.now in
-    let q = c.args.first + c.loop-j.j in (
+    let q = c.loop-q.q in (
       looked_join g.P.Part.meaning g.P.Part.trace g.P.Part.intact g.met.P.Part.joins _ _ _ _ _ _ inv.0 page.looked (omega arith),
       λ h.
-          first_more (c.args.first * 64) (q * 64) (q * 64 + 64) ((c.args.first + (c.loop-j.j + 1)) * 64) m.image (wanted m a b) (omega arith) (inv.1 h)
+          first_more (c.args.first * 64) (q * 64) (q * 64 + 64) ((q + 1) * 64) m.image (wanted m a b) (omega arith) (inv.1 h)
           (subst (λ (x : Meaning). FirstIn (q * 64) (q * 64 + 64) x.image (wanted x a b) None) inv.0.same (page.value (inv.0.keeps h))),
     )

@@ -1,11 +1,11 @@
-use Rattle.std.proofs.Common.{◌+◌, ◌*◌, None}
+use Rattle.std.proofs.Common.{◌-◌, ◌*◌, None}
 use Rattle.planner.specs.Looking.{LookedBy, wanted}
 use Rattle.planner.specs.Changes.{FirstIn}
 use Rattle.planner.proofs.barred.change_in.Given as goal
 
-abbrev pub invariant-loop-j : goal.invariant-loop-j
-invariant-loop-j g l =
+abbrev pub invariant-loop-q : goal.invariant-loop-q
+invariant-loop-q g l =
     let m = g.P.Part.meaning l.initial.part in
-    LookedBy g.P.Part.meaning g.P.Part.trace g.P.Part.intact (64 * l.j) l.initial.part l.part
+    LookedBy g.P.Part.meaning g.P.Part.trace g.P.Part.intact (64 * (l.q - l.first)) l.initial.part l.part
     × (g.P.Part.intact l.initial.part
-    → FirstIn (l.first * 64) ((l.first + l.j) * 64) m.image (wanted m l.write.address l.write.bytes.now) None)
+    → FirstIn (l.first * 64) (l.q * 64) m.image (wanted m l.write.address l.write.bytes.now) None)

@@ -5,12 +5,12 @@ use Rattle.part.specs.Meaning.{Meaning, protected_at}
 use Rattle.planner.specs.Changes.{FirstIn}
 use Rattle.planner.specs.Asking.{whole}
 use Rattle.planner.specs.Looking.{Fitting, LookedBy, wanted}
-use Rattle.planner.proofs.Barrings.{barred_open, barred_same, barred_some, protected_is}
+use Rattle.planner.proofs.Barrings.{barred_open, barred_same, barred_some}
 use Rattle.planner.proofs.Askings.{guarded_more, guarded_most, mul_more}
 use Rattle.planner.proofs.Lookings.{looked_none, looked_join, looked_most}
 use Rattle.planner.proofs.Surveys.{free_not}
 use Rattle.planner.proofs.barred.lowest_barred.Goals as goal
-use Rattle.planner.proofs.barred.lowest_barred.Goals.{then-unwrap+in_default, else-unwrap}
+use Rattle.planner.proofs.barred.lowest_barred.Goals.{then-protects+in_default, else-protects}
 
 pub loop-k-init : goal.loop-k-init
 loop-k-init g c = (
@@ -48,8 +48,7 @@ returns-in-Some g c =
     let p = c.pages-pages.result in
     let s = c.sectors-sectors.ensures in
     let inside : k < m.shape.sectors = omega arith in
-    let inside' : k < now.shape.sectors = subst (λ (x : Meaning). k < x.shape.sectors) (sym inv.0.same) inside in
-    let prot = said m now k true inv.0.same (protected_is now k true _ inside' c.is_protected.ensures c.if-unwrap.ensures) in
+    let prot = said m now k true inv.0.same (sym c.if-protects.ensures) in
     record {
       looked = looked_join g.P.Part.meaning g.P.Part.trace g.P.Part.intact g.met.P.Part.joins _ _ _ _ _ _ inv.0 found.looked
           (guarded_more (free (protected_at m) m.shape.sectors) (64 * (k * m.shape.pages)) (64 * p) (whole m)
@@ -74,29 +73,28 @@ loop-k-preserved g c =
     let p = c.pages-pages.result in
     let s = c.sectors-sectors.ensures in
     let inside : k < m.shape.sectors = omega arith in
-    let inside' : k < now.shape.sectors = subst (λ (x : Meaning). k < x.shape.sectors) (sym inv.0.same) inside in
     let f = free (protected_at m) m.shape.sectors in
     let more = mul_more k m.shape.pages in
     let then : ℕ = cond f 0 (64 * ((k + 1) * m.shape.pages)) in
-    elim c.if-unwrap.branch [
-      | then-unwrap+in_default w ↦ (
+    elim c.if-protects.branch [
+      | then-protects+in_default w ↦ (
         subst (λ x. LookedBy g.P.Part.meaning g.P.Part.trace g.P.Part.intact then c.args.part.now x) (sym w.part-is)
             (looked_join g.P.Part.meaning g.P.Part.trace g.P.Part.intact g.met.P.Part.joins _ _ then _ _ _ inv.0 w.in_default.ensures.looked
             (guarded_more f (64 * (k * m.shape.pages)) (64 * p) (64 * ((k + 1) * m.shape.pages))
             (free_not (protected_at m) m.shape.sectors k inside
-            (said m now k true inv.0.same (protected_is now k true _ inside' c.is_protected.ensures w.if-unwrap.ensures)))
+            (said m now k true inv.0.same (sym w.if-protects.ensures)))
             (omega (arith, more, c.pages-pages.ensures)))),
         λ h.
             barred_same m c.requires.sound (wanted m a b) k p c.pages-pages.ensures
             (subst (λ (x : Meaning). FirstIn (k * p * 64) ((k * p + p) * 64) x.image (wanted x a b) None) inv.0.same (w.in_default.ensures.value (inv.0.keeps h)))
             (inv.1 h),
       )
-      | else-unwrap w ↦ (
+      | else-protects w ↦ (
         subst (λ x. LookedBy g.P.Part.meaning g.P.Part.trace g.P.Part.intact then c.args.part.now x) (sym w.part-is)
             (looked_most g.P.Part.meaning g.P.Part.trace g.P.Part.intact _ then _ _ inv.0
             (guarded_most f (64 * (k * m.shape.pages)) (64 * ((k + 1) * m.shape.pages)) (omega (arith, more)))),
         λ h.
             barred_open m c.requires.sound (wanted m a b) k p c.pages-pages.ensures
-            (said m now k false inv.0.same (protected_is now k false _ inside' c.is_protected.ensures w.if-unwrap.ensures)) (inv.1 h),
+            (said m now k false inv.0.same (sym w.if-protects.ensures)) (inv.1 h),
       )
     ]

@@ -19,16 +19,16 @@ returns-in-Some g c =
     let m = g.P.Part.meaning c.args.part.now in
     let a = c.args.write.address in
     let b = c.args.write.bytes.now in
-    let sectors = c.sector_costs.ensures in
+    let sectors = c.sector_costs-sectors.ensures in
     let bulk = c.in-Some.ensures in
     record {
       looked = looked_join g.P.Part.meaning g.P.Part.trace g.P.Part.intact g.met.P.Part.joins _ _ _ _ _ _ sectors.looked bulk.looked (same_most _ _ (ap (λ x. whole m + for_bulk x) sectors.looked.same));
       value =
           λ h.
           let t : Some c.in-Some.cost ≡ answered m a b (by_sectors m a b) =
-          bulk.value (sectors.looked.keeps h) (sectors.touched h ∙ ap (λ x. on_all x a b) (sym sectors.looked.same)) ∙ (ap (λ x. answered x a b c.sector_costs.result.0) sectors.looked.same ∙ ap (answered m a b) (sectors.value h)) in
+          bulk.value (sectors.looked.keeps h) (sectors.touched h ∙ ap (λ x. on_all x a b) (sym sectors.looked.same)) ∙ (ap (λ x. answered x a b c.sector_costs-sectors.result.cost) sectors.looked.same ∙ ap (answered m a b) (sectors.value h)) in
           let w = chose_bulk (free (protected_at m) m.shape.sectors) (by_sectors m a b) (bulk_cost fewest m.shape (preset m a b)) c.in-Some.cost t in
-          record { bulk = w.0; marks = sectors.marks h; cost = w.1 };
+          record { erasure = sym w.0; cost = w.1 };
     }
 
 pub returns-in-None : goal.returns-in-None
@@ -36,14 +36,14 @@ returns-in-None g c =
     let m = g.P.Part.meaning c.args.part.now in
     let a = c.args.write.address in
     let b = c.args.write.bytes.now in
-    let sectors = c.sector_costs.ensures in
+    let sectors = c.sector_costs-sectors.ensures in
     let bulk = c.in-None.ensures in
     record {
       looked = looked_join g.P.Part.meaning g.P.Part.trace g.P.Part.intact g.met.P.Part.joins _ _ _ _ _ _ sectors.looked bulk.looked (same_most _ _ (ap (λ x. whole m + for_bulk x) sectors.looked.same));
       value =
           λ h.
           let t : None ≡ answered m a b (by_sectors m a b) =
-          bulk.value (sectors.looked.keeps h) (sectors.touched h ∙ ap (λ x. on_all x a b) (sym sectors.looked.same)) ∙ (ap (λ x. answered x a b c.sector_costs.result.0) sectors.looked.same ∙ ap (answered m a b) (sectors.value h)) in
+          bulk.value (sectors.looked.keeps h) (sectors.touched h ∙ ap (λ x. on_all x a b) (sym sectors.looked.same)) ∙ (ap (λ x. answered x a b c.sector_costs-sectors.result.cost) sectors.looked.same ∙ ap (answered m a b) (sectors.value h)) in
           let w = chose_sectors (free (protected_at m) m.shape.sectors) (by_sectors m a b) (bulk_cost fewest m.shape (preset m a b)) t in
-          record { bulk = w.0; marks = sectors.marks h; cost = sectors.value h ∙ w.1 };
+          record { erasure = (sym w.0, sectors.marks h); cost = sectors.value h ∙ w.1 };
     }

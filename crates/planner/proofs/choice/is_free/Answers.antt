@@ -1,19 +1,16 @@
-use Rattle.std.proofs.Common.{sym, arith}
+use Rattle.std.proofs.Common.{not, refl, ap, ◌∙◌, arith, rules, tests}
+use Rattle.std.proofs.lemmas.Iterator.{YieldsList-from_range}
+use Rattle.std.proofs.lemmas.Iterator.Search.{any_from_yields_List}
+use Rattle.memory.specs.Protection.{free}
 use Rattle.part.specs.Meaning.{protected_at}
-use Rattle.planner.proofs.Barrings.{protected_is}
-use Rattle.planner.proofs.Surveys.{free_more, free_not}
+use Rattle.planner.proofs.Surveys.{free_is}
 use Rattle.planner.proofs.choice.is_free.Goals as goal
 
-pub returns-then-unwrap : goal.returns-then-unwrap
-returns-then-unwrap g c =
+pub returns : goal.returns
+returns g c =
     let m = g.P.Part.meaning c.args.part.now in
-    let e = c.sectors-k-end.ensures in
-    sym (free_not (protected_at m) m.shape.sectors c.loop-k.k (omega arith)
-    (protected_is m c.loop-k.k _ _ (omega arith) c.is_protected.ensures c.if-unwrap.ensures))
-
-pub loop-k-preserved : goal.loop-k-preserved
-loop-k-preserved g c =
-    let m = g.P.Part.meaning c.args.part.now in
-    let e = c.sectors-k-end.ensures in
-    free_more (protected_at m) c.loop-k.k c.loop-k.invariant
-    (protected_is m c.loop-k.k _ _ (omega arith) c.is_protected.ensures c.if-unwrap.ensures)
+    let n = c.sectors.result in
+    ap not
+    (any_from_yields_List {s = record { start = 0; end = n }} (protected_at m) c.any.new.self _ c.any.result c.any.ensures.ran
+    (YieldsList-from_range 0 n n refl (omega arith)) (λ x b q k. search (rules, tests)))
+    ∙ (free_is (protected_at m) n ∙ ap (free (protected_at m)) c.sectors.ensures)

@@ -14,8 +14,8 @@ use Rattle.planner.proofs.choice.sector_cost.Goals as goal
 inside : (m : Meaning) (k p : ℕ) → p ≡ m.shape.pages → k < m.shape.sectors → k * p + p ≤ m.shape.sectors * m.shape.pages
 inside m k p e h = subst (λ x. k * x + x ≤ m.shape.sectors * m.shape.pages) (sym e) (below_end m.shape.pages k m.shape.sectors h)
 
-pub touched_costs-requires : goal.touched_costs-requires
-touched_costs-requires g c =
+pub touched_costs-kept-requires : goal.touched_costs-kept-requires
+touched_costs-kept-requires g c =
     record {
       fitting = c.requires.0;
       count_bound = inside (g.P.Part.meaning c.args.part.now) c.args.k c.pages-pages.result c.pages-pages.ensures c.requires.1;
@@ -23,7 +23,7 @@ touched_costs-requires g c =
 
 pub erase_costs-requires : goal.erase_costs-requires
 erase_costs-requires g c =
-    let touched = c.touched_costs.ensures in
+    let touched = c.touched_costs-kept.ensures in
     let same = sym touched.looked.same in
     let k = c.args.k in
     let p = c.pages-pages.result in
@@ -50,21 +50,21 @@ chosen m a b k p keep cost r e u v t =
 pub returns-in-Some : goal.returns-in-Some
 returns-in-Some g c =
     let m = g.P.Part.meaning c.args.part.now in
-    let m' = g.P.Part.meaning c.touched_costs.new.part in
+    let m' = g.P.Part.meaning c.touched_costs-kept.new.part in
     let a = c.args.write.address in
     let b = c.args.write.bytes.now in
     let k = c.args.k in
     let p = c.pages-pages.result in
-    let touched = c.touched_costs.ensures in
+    let touched = c.touched_costs-kept.ensures in
     let erase = c.in-Some.ensures in
     let e = c.pages-pages.ensures in
     let low = c.requires.0.sound.low in
     let both : g.P.Part.intact c.args.part.now
-    → ◌≡◌ {A = Bool × (ℕ × ℕ)} (true, c.in-Some.erase) (erases m a b k, sector_cost fewest m.shape (kept m a b) (preset m a b) k) =
+    → ◌≡◌ {A = Bool × (ℕ × ℕ)} (true, c.in-Some.cost) (erases m a b k, sector_cost fewest m.shape (kept m a b) (preset m a b) k) =
     λ h.
-    chosen m a b k p c.touched_costs.result.0 (erased_from m' a b (k * p) p) (true, c.in-Some.erase) e (touched.kept h)
+    chosen m a b k p c.touched_costs-kept.result.cost (erased_from m' a b (k * p) p) (true, c.in-Some.cost) e (touched.kept h)
     (ap (λ n. erased_from n a b (k * p) p) touched.looked.same)
-    (chose_second c.touched_costs.result.0 _ c.in-Some.erase
+    (chose_second c.touched_costs-kept.result.cost _ c.in-Some.cost
     (erase.value (touched.looked.keeps h) (touched.presets h ∙ ap (λ n. on_from n a b (k * p) p) (sym touched.looked.same)))) in
     record {
       looked = looked_join g.P.Part.meaning g.P.Part.trace g.P.Part.intact g.met.P.Part.joins _ _ _ _ _ _ touched.looked erase.looked (omega (arith, on_and_off a b (k * p) p, e));
@@ -79,21 +79,21 @@ returns-in-Some g c =
 pub returns-in-None : goal.returns-in-None
 returns-in-None g c =
     let m = g.P.Part.meaning c.args.part.now in
-    let m' = g.P.Part.meaning c.touched_costs.new.part in
+    let m' = g.P.Part.meaning c.touched_costs-kept.new.part in
     let a = c.args.write.address in
     let b = c.args.write.bytes.now in
     let k = c.args.k in
     let p = c.pages-pages.result in
-    let touched = c.touched_costs.ensures in
+    let touched = c.touched_costs-kept.ensures in
     let erase = c.in-None.ensures in
     let e = c.pages-pages.ensures in
     let low = c.requires.0.sound.low in
     let both : g.P.Part.intact c.args.part.now
-    → ◌≡◌ {A = Bool × (ℕ × ℕ)} (false, c.touched_costs.result.0) (erases m a b k, sector_cost fewest m.shape (kept m a b) (preset m a b) k) =
+    → ◌≡◌ {A = Bool × (ℕ × ℕ)} (false, c.touched_costs-kept.result.cost) (erases m a b k, sector_cost fewest m.shape (kept m a b) (preset m a b) k) =
     λ h.
-    chosen m a b k p c.touched_costs.result.0 (erased_from m' a b (k * p) p) (false, c.touched_costs.result.0) e (touched.kept h)
+    chosen m a b k p c.touched_costs-kept.result.cost (erased_from m' a b (k * p) p) (false, c.touched_costs-kept.result.cost) e (touched.kept h)
     (ap (λ n. erased_from n a b (k * p) p) touched.looked.same)
-    (chose_first c.touched_costs.result.0 _
+    (chose_first c.touched_costs-kept.result.cost _
     (erase.value (touched.looked.keeps h) (touched.presets h ∙ ap (λ n. on_from n a b (k * p) p) (sym touched.looked.same)))) in
     record {
       looked = looked_join g.P.Part.meaning g.P.Part.trace g.P.Part.intact g.met.P.Part.joins _ _ _ _ _ _ touched.looked erase.looked (omega (arith, on_and_off a b (k * p) p, e));

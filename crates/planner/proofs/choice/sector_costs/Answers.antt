@@ -6,7 +6,7 @@ use Rattle.least.specs.Sectors.{over_sector, sector_cost}
 use Rattle.planner.specs.Survey.{erases, kept, preset, preset_on}
 use Rattle.planner.proofs.Askings.{mul_more}
 use Rattle.planner.proofs.Lookings.{looked_none, looked_join}
-use Rattle.planner.proofs.Totals.{sum_more}
+use Rattle.planner.proofs.Totals.{parts, sum_more}
 use Rattle.planner.proofs.choice.sector_costs.Goals as goal
 
 -- one more mark
@@ -32,26 +32,30 @@ loop-k-init g c = (
 pub loop-k-preserved : goal.loop-k-preserved
 loop-k-preserved g c =
     let inv = c.loop-k.invariant in
-    let sector = c.sector_cost-first.ensures in
+    let sector = c.sector_cost-sector.ensures in
     let a = c.args.write.address in
     let b = c.args.write.bytes.now in
     let k = c.loop-k.k in
     let m = g.P.Part.meaning c.args.part.now in
-    let few = c.requires.0.sound.few in (
+    let few = c.requires.0.sound.few in
+    let cost = parts _ _ _ c.add_assign.ensures.after.0 in
+    let presets = parts _ _ _ c.add_assign.ensures.after.1 in (
       looked_join g.P.Part.meaning g.P.Part.trace g.P.Part.intact g.met.P.Part.joins _ _ _ _ _ _ inv.0 sector.looked (omega (arith, mul_more k m.shape.pages, ap (λ (x : Meaning). x.shape.pages) inv.0.same)),
-      omega (arith, inv.1, sector.bound),
-      omega (arith, inv.2, sector.bound),
-      omega (arith, inv.3, sector.presets),
-      omega (arith, inv.4, sector.presets),
+      omega (arith, inv.1, sector.bound, cost.0),
+      omega (arith, inv.2, sector.bound, cost.1),
+      omega (arith, inv.3, sector.presets, presets.0),
+      omega (arith, inv.4, sector.presets, presets.1),
       λ h.
-          ap₂ (λ x y. fewest.plus x y) (inv.5 h)
+          c.add_assign.ensures.after.0
+          ∙ ap₂ (λ x y. fewest.plus x y) (inv.5 h)
           (sector.value (inv.0.keeps h) ∙ ap (λ x. sector_cost fewest x.shape (kept x a b) (preset x a b) k) inv.0.same)
           ∙ sym (sum_more fewest k (sector_cost fewest m.shape (kept m a b) (preset m a b))),
       λ h.
-          marked c.loop-k.erased (erases m a b) k c.sector_cost-first.result.0 (omega arith)
+          marked c.loop-k.erased (erases m a b) k c.sector_cost-sector.result.erased (omega arith)
           (sector.first (inv.0.keeps h) ∙ ap (λ x. erases x a b k) inv.0.same) (inv.6 h),
       λ h.
-          ap₂ (λ x y. fewest.plus x y) (inv.7 h)
+          c.add_assign.ensures.after.1
+          ∙ ap₂ (λ x y. fewest.plus x y) (inv.7 h)
           (sector.touched (inv.0.keeps h) ∙ ap (λ x. over_sector fewest x.shape (preset_on x a b) k) inv.0.same)
           ∙ sym (sum_more fewest k (over_sector fewest m.shape (preset_on m a b))),
     )

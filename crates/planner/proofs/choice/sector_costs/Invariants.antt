@@ -12,8 +12,8 @@ invariant-loop-k g l =
     let a = l.write.address in
     let b = l.write.bytes.now in
     LookedBy g.P.Part.meaning g.P.Part.trace g.P.Part.intact (64 * (l.k * m.shape.pages)) l.initial.part l.part
-    × (l.cost.0 ≤ 2049 * l.k) × (l.cost.1 ≤ 131072 * l.k)
-    × (l.presets.0 ≤ 2048 * l.k) × (l.presets.1 ≤ 131072 * l.k)
-    × (g.P.Part.intact l.initial.part → l.cost ≡ sum_to fewest l.k (sector_cost fewest m.shape (kept m a b) (preset m a b)))
+    × (l.costs.cost.0 ≤ 2049 * l.k) × (l.costs.cost.1 ≤ 131072 * l.k)
+    × (l.costs.presets.0 ≤ 2048 * l.k) × (l.costs.presets.1 ≤ 131072 * l.k)
+    × (g.P.Part.intact l.initial.part → l.costs.cost ≡ sum_to fewest l.k (sector_cost fewest m.shape (kept m a b) (preset m a b)))
     × (g.P.Part.intact l.initial.part → (i : ℕ) → i < l.k → get_or l.erased i false ≡ erases m a b i)
-    × (g.P.Part.intact l.initial.part → l.presets ≡ sum_to fewest l.k (over_sector fewest m.shape (preset_on m a b)))
+    × (g.P.Part.intact l.initial.part → l.costs.presets ≡ sum_to fewest l.k (over_sector fewest m.shape (preset_on m a b)))

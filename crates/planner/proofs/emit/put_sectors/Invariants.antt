@@ -1,4 +1,4 @@
-use Rattle.std.proofs.Common.{◌*◌, ◌≤◌, false, length, get_or}
+use Rattle.std.proofs.Common.{◌*◌, false, get_or}
 use Rattle.least.specs.Plan.{list_to}
 use Rattle.planner.specs.Looking.{LookedBy}
 use Rattle.planner.specs.Sending.{Sent}
@@ -8,7 +8,6 @@ use Rattle.planner.proofs.emit.put_sectors.Given as goal
 abbrev pub invariant-loop-k : goal.invariant-loop-k
 invariant-loop-k g l =
     LookedBy g.P.Part.meaning g.P.Part.trace g.P.Part.intact (64 * (l.k * (g.P.Part.meaning l.initial.part).shape.pages)) l.initial.part l.part
-    × (l.at.0 ≤ length l.steps) × (l.at.1 ≤ length l.data)
-    × (g.P.Part.intact l.initial.part
-    → Sent (list_to l.k (λ i. sector_list (g.P.Part.meaning l.initial.part) l.write.address l.write.bytes.now (get_or l.erased i false) i))
-    l.initial.steps l.steps l.initial.data l.data (0, 0) l.at)
+    × Sent (g.P.Part.intact l.initial.part)
+    (list_to l.k (λ i. sector_list (g.P.Part.meaning l.initial.part) l.write.address l.write.bytes.now (get_or l.marks i false) i))
+    l.initial.sheet l.sheet

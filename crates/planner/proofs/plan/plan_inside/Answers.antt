@@ -1,10 +1,10 @@
-use Rattle.std.proofs.Common.{◌≡◌, ℕ, ◌-◌, ◌*◌, ◌++◌, length, take, drop, Some, None, sym, refl, ap, ◌∙◌, subst, ap₂, arith, length-take}
+use Rattle.std.proofs.Common.{◌≡◌, ℕ, ◌*◌, ◌++◌, length, take, drop, Some, None, sym, refl, ap, ◌∙◌, subst, ap₂, arith, length-take}
 use Rattle.std.proofs.lemmas.Slice.{drop-append-drop}
 use Rattle.std.proofs.lemmas.Bool.{true≢false}
 use Rattle.part.specs.Meaning.{Meaning}
 use Rattle.least.specs.Steps.{steps_of, data_of}
 use Rattle.planner.specs.Asking.{whole}
-use Rattle.planner.specs.Sending.{Sent}
+use Rattle.planner.specs.Sending.{Laid}
 use Rattle.planner.specs.Choice.{Chosen}
 use Rattle.planner.specs.Call.{plan_list}
 use Rattle.planner.proofs.Askings.{asked-all, asked-barred, asked_choice, asked_most}
@@ -84,17 +84,15 @@ returns g c =
     let steps = c.args.steps.now in
     let sent = c.args.data.now in
     let looked₁ = looked_join g.P.Part.meaning g.P.Part.trace g.P.Part.intact g.met.P.Part.joins _ _ (2 * whole m) _ _ _ low.looked ch.looked (asked_choice m _ low.looked.same) in
-    let n₀ : length (take (n - 0) steps) ≡ n = simp length-take (omega arith) in
-    let d₀ : length (take (d - 0) sent) ≡ d = simp length-take (omega arith) in
-    let n₁ : n - 0 ≡ n = omega arith in
-    let d₁ : d - 0 ≡ d = omega arith in
+    let n₀ : length (take n steps) ≡ n = simp length-take (omega arith) in
+    let d₀ : length (take d sent) ≡ d = simp length-take (omega arith) in
     record {
       looked = looked_join g.P.Part.meaning g.P.Part.trace g.P.Part.intact g.met.P.Part.joins _ _ _ _ _ _ looked₁ pp.looked (asked-all m _ looked₁.same);
       unplanned = λ t. absurd (true≢false t);
       room = (c.if-cycles-steps.false, c.if-sent-data.false);
       rest = (
-        drop-append-drop (n - 0) steps c.put_plan.new.steps n (omega arith) (omega (arith, c.put_plan.auto.steps)),
-        drop-append-drop (d - 0) sent c.put_plan.new.data d (omega arith) (omega (arith, c.put_plan.auto.data)),
+        drop-append-drop n steps c.put_plan.new.steps n (omega arith) (omega (arith, c.put_plan.auto.steps)),
+        drop-append-drop d sent c.put_plan.new.data d (omega arith) (omega (arith, c.put_plan.auto.data)),
       );
       answer =
           λ h.
@@ -102,10 +100,10 @@ returns g c =
           let e = cost_is m F.sound a b c.choose-choice.result chosen in
           let u : length (steps_of (plan_list m a b)) ≡ n = sym (ap (λ (y : ℕ × ℕ). y.0) (e ∙ plan-counts m F.sound a b)) in
           let v : length (data_of (plan_list m a b)) ≡ d = sym (ap (λ (y : ℕ × ℕ). y.1) (e ∙ plan-counts m F.sound a b)) in
-          let s = subst (λ (x : Meaning). Sent (plan_list x a b) (take (n - 0) steps) c.put_plan.new.steps (take (d - 0) sent) c.put_plan.new.data (0, 0) c.put_plan.result) looked₁.same
-          (pp.sent (looked₁.keeps h) (subst (λ (x : Meaning). Chosen x a b c.choose-choice.result) (sym looked₁.same) chosen)) in
-          let p = put_all (plan_list m a b) (take (n - 0) steps) c.put_plan.new.steps (take (d - 0) sent) c.put_plan.new.data c.put_plan.result n d n₀ d₀ u v s in
+          let s = subst (λ (x : Meaning). Laid (plan_list x a b) (take n steps) c.put_plan.new.steps (take d sent) c.put_plan.new.data) looked₁.same
+          (pp.laid (looked₁.keeps h) (subst (λ (x : Meaning). Chosen x a b c.choose-choice.result) (sym looked₁.same) chosen)) in
+          let p = put_all (plan_list m a b) (take n steps) c.put_plan.new.steps (take d sent) c.put_plan.new.data n d n₀ d₀ u v s in
           handed_plan m F.sound a b _ _ steps _ sent _ (lowest_is m F.sound a b F c.requires.byte None (low.value h)) c.choose-choice.result.cost
           e c.if-cycles-steps.false c.if-sent-data.false
-          (ap₂ (λ x k. x ++ drop k steps) p.0 (n₁ ∙ sym u)) (ap₂ (λ x k. x ++ drop k sent) p.1 (d₁ ∙ sym v));
+          (ap₂ (λ x k. x ++ drop k steps) p.0 (sym u)) (ap₂ (λ x k. x ++ drop k sent) p.1 (sym v));
     }

@@ -1,22 +1,13 @@
-use Rattle.std.proofs.Common.{◌≡◌, ◌+◌, ◌-◌, ◌%◌, get_or, sym, ap, ◌∙◌, arith}
-use Rattle.planner.proofs.Pages.{sets_more, sets_none}
+use Rattle.std.proofs.Common.{◌+◌, ◌%◌, [], ◌∷◌, ◌++◌, get_or, sym, ap, ◌∙◌, rules, arith}
+use Rattle.std.proofs.lemmas.List.{take_more_set}
+use Rattle.planner.proofs.Pages.{bytes_more}
 use Rattle.planner.proofs.sheet.send_bytes.Goals as goal
-
-pub loop-i-init : goal.loop-i-init
-loop-i-init c =
-    let a : c.args.at + 0 ≡ c.args.at = omega arith in
-    let b : c.args.window.0 + 0 ≡ c.args.window.0 = omega arith in
-    let n : c.args.window.1 - 0 ≡ c.args.window.1 = omega arith in cc
 
 pub loop-i-preserved : goal.loop-i-preserved
 loop-i-preserved c =
-    let a = c.args.window.0 in
     let i = c.loop-i.i in
-    let e : (a + i % 64) % 64 ≡ (a + i) % 64 = omega arith in
-    sym (sets_more 64 c.args.page.now c.loop-i.data a c.args.at i c.args.window.1 _ (omega arith) (ap (λ y. get_or c.args.page.now y 0) e))
-    ∙ c.loop-i.invariant
-
-pub returns : goal.returns
-returns c =
-    sym (sets_none 64 c.args.page.now c.loop-i.data c.args.window.0 c.args.at c.loop-i.i c.args.window.1 (omega arith))
-    ∙ c.loop-i.invariant
+    let byte = get_or c.args.page.now ((c.args.start + i) % 64) 0 in (
+      take_more_set c.loop-i.data i byte (omega arith)
+          ∙ (ap (λ l. l ++ byte ∷ []) c.loop-i.invariant.0 ∙ sym (bytes_more 64 c.args.page.now c.args.start i)),
+      search rules,
+    )

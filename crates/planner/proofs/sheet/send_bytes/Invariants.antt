@@ -1,9 +1,6 @@
-use Rattle.std.proofs.Common.{◌≡◌, ◌+◌, ◌-◌}
-use lib.Seq.{sets}
+use Rattle.std.proofs.Common.{◌≡◌, length, take}
 use Rattle.least.specs.Plan.{bytes_from}
 use Rattle.planner.proofs.sheet.send_bytes.Given as goal
 
 abbrev pub invariant-loop-i : goal.invariant-loop-i
-invariant-loop-i l =
-    sets l.data (l.at + l.i) (bytes_from 64 l.page (l.window.0 + l.i) (l.window.1 - l.i))
-    ≡ sets l.initial.data l.at (bytes_from 64 l.page l.window.0 l.window.1)
+invariant-loop-i l = (take l.i l.data ≡ bytes_from 64 l.page l.start l.i) × (length l.data ≡ length l.initial.data)

@@ -1,43 +1,51 @@
-use Rattle.std.proofs.Common.{◌+◌, sym, refl, ap, ◌∙◌, ap₂, arith}
+use Rattle.std.proofs.Common.{◌≡◌, ◌-◌, sym, ap, ◌∙◌, ap₂, arith}
 use Rattle.least.specs.Fewest.{fewest}
-use Rattle.planner.specs.Survey.{kept, preset_on}
-use Rattle.planner.proofs.Askings.{on_more, same_most}
+use Rattle.planner.specs.Survey.{kept, kept_from, on_from, preset_on}
+use Rattle.planner.proofs.Askings.{on_next, same_most}
 use Rattle.planner.proofs.Lookings.{looked_none, looked_join}
-use Rattle.planner.proofs.Totals.{sum_more}
+use Rattle.planner.proofs.Totals.{parts, sum_next}
 use Rattle.planner.proofs.survey.touched_costs.Goals as goal
 
-pub loop-j-init : goal.loop-j-init
-loop-j-init g c = (
-  looked_none g.P.Part.meaning g.P.Part.trace g.P.Part.intact _ c.args.part.now (g.met.P.Part.stays c.args.part.now),
-  omega arith,
-  omega arith,
-  omega arith,
-  omega arith,
-  λ _. refl,
-  λ _. refl,
-  omega arith,
-  omega arith,
-)
+pub loop-q-init : goal.loop-q-init
+loop-q-init g c =
+    let none : c.args.first - c.args.first ≡ 0 = omega arith in
+    let m = g.P.Part.meaning c.args.part.now in
+    let a = c.args.write.address in
+    let b = c.args.write.bytes.now in (
+      looked_none g.P.Part.meaning g.P.Part.trace g.P.Part.intact _ c.args.part.now (g.met.P.Part.stays c.args.part.now),
+      omega arith,
+      omega arith,
+      omega arith,
+      omega arith,
+      λ _. sym (ap (kept_from m a b c.args.first) none),
+      λ _. sym (ap (on_from m a b c.args.first) none),
+      omega arith,
+      omega arith,
+    )
 
-pub loop-j-preserved : goal.loop-j-preserved
-loop-j-preserved g c =
-    let inv = c.loop-j.invariant in
+pub loop-q-preserved : goal.loop-q-preserved
+loop-q-preserved g c =
+    let inv = c.loop-q.invariant in
     let page = c.page_costs.ensures in
     let a = c.args.write.address in
     let b = c.args.write.bytes.now in
     let m = g.P.Part.meaning c.args.part.now in
-    let q = c.args.first + c.loop-j.j in (
-      looked_join g.P.Part.meaning g.P.Part.trace g.P.Part.intact g.met.P.Part.joins _ _ _ _ _ _ inv.0 page.looked (same_most _ _ (sym (on_more a b c.args.first c.loop-j.j))),
-      omega (arith, inv.1, page.keeping),
-      omega (arith, inv.2, page.keeping),
-      omega (arith, inv.3, page.erased),
-      omega (arith, inv.4, page.erased),
+    let q = c.loop-q.q in
+    let cost = parts _ _ _ c.add_assign.ensures.after.0 in
+    let presets = parts _ _ _ c.add_assign.ensures.after.1 in (
+      looked_join g.P.Part.meaning g.P.Part.trace g.P.Part.intact g.met.P.Part.joins _ _ _ _ _ _ inv.0 page.looked (same_most _ _ (sym (on_next a b c.args.first c.loop-q.q (omega arith)))),
+      omega (arith, inv.1, page.keeping, cost.0),
+      omega (arith, inv.2, page.keeping, cost.1),
+      omega (arith, inv.3, page.erased, presets.0),
+      omega (arith, inv.4, page.erased, presets.1),
       λ h.
-          ap₂ (λ x y. fewest.plus x y) (inv.5 h) (page.kept (inv.0.keeps h) ∙ ap (λ x. kept x a b q) inv.0.same)
-          ∙ sym (sum_more fewest c.loop-j.j (λ i. kept m a b (c.args.first + i))),
+          c.add_assign.ensures.after.0
+          ∙ ap₂ (λ x y. fewest.plus x y) (inv.5 h) (page.kept (inv.0.keeps h) ∙ ap (λ x. kept x a b q) inv.0.same)
+          ∙ sym (sum_next fewest (kept m a b) c.args.first q (omega arith)),
       λ h.
-          ap₂ (λ x y. fewest.plus x y) (inv.6 h) (page.preset (inv.0.keeps h) ∙ ap (λ x. preset_on x a b q) inv.0.same)
-          ∙ sym (sum_more fewest c.loop-j.j (λ i. preset_on m a b (c.args.first + i))),
-      omega (arith, inv.7, page.apart, on_more a b c.args.first c.loop-j.j),
-      omega (arith, inv.8, page.apart, on_more a b c.args.first c.loop-j.j),
+          c.add_assign.ensures.after.1
+          ∙ ap₂ (λ x y. fewest.plus x y) (inv.6 h) (page.preset (inv.0.keeps h) ∙ ap (λ x. preset_on x a b q) inv.0.same)
+          ∙ sym (sum_next fewest (preset_on m a b) c.args.first q (omega arith)),
+      omega (arith, inv.7, page.apart, presets.0, on_next a b c.args.first c.loop-q.q (omega arith)),
+      omega (arith, inv.8, page.apart, presets.1, on_next a b c.args.first c.loop-q.q (omega arith)),
     )

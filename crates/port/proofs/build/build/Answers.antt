@@ -1,8 +1,11 @@
 use Rattle.std.proofs.Common.{◌≡◌, ◌+◌, ◌-◌, ◌++◌, length, take, drop, sym, ap, ◌∙◌, ap₂, arith}
 use Rattle.std.proofs.lemmas.Bool.Decides.{nat_tests}
 use Rattle.port.specs.Build.{built, headed, carried_by}
-use Rattle.port.proofs.Building.{understood, built_is, length-built, carried-part}
+use Rattle.port.proofs.Building.{address_most, understood, built_is, length-built, carried-part}
 use Rattle.port.proofs.build.build.Goals as goal
+
+pub lay_out-requires-clause-address : goal.lay_out-requires-clause-address
+lay_out-requires-clause-address c = let a = address_most c.args.operation c.of-row.result c.of-row.ensures in omega arith
 
 pub returns-in_err-check_length-clause-result : goal.returns-in_err-check_length-clause-result
 returns-in_err-check_length-clause-result c =

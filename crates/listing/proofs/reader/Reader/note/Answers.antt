@@ -1,20 +1,19 @@
-use Rattle.std.proofs.Common.{◌≡◌, length, arith}
-use Rattle.std.proofs.lemmas.Bool.Decides.{nat_tests}
-use Rattle.listing.proofs.Turns.{inside_more, inside_none}
+use Rattle.std.proofs.Common.{length, Err, sym, ap, ◌∙◌}
+use Rattle.std.proofs.lemmas.Result.{err_from_is_err_and}
+use Rattle.listing.specs.Scan.{refused}
+use Rattle.listing.proofs.Drops.{lacked, had}
+use Rattle.listing.proofs.Turns.{noted, inside_position}
 use Rattle.listing.proofs.reader.Reader.note.Goals as goal
 
-pub returns-then-b-eq10 : goal.returns-then-b-eq10
-returns-then-b-eq10 c =
+pub returns-in_err-end-clause-same : goal.returns-in_err-end-clause-same
+returns-in_err-end-clause-same c =
     let t = c.args.self.now.rest.now in
-    let e = inside_more t c.loop-i.i c.loop-i-test.true in record { same = grind (arith, nat_tests); within = c.loop-i-test.true }
+    let p = err_from_is_err_and c.from_residual.result c.from_residual.ensures.1 in
+    let n = lacked c.line_end.result c.stuck.result c.in_err-end.field-0.0 c.in_err-end.ensures.value in
+    rw (p.1, p.2) (ap Err (n.1 ∙ c.stuck.ensures) ∙ sym (ap (refused c.args.self.now.line) (inside_position t c.line_end.result c.line_end.ensures ∙ ap (noted (length t)) n.0)))
 
-pub loop-i-preserved : goal.loop-i-preserved
-loop-i-preserved c =
+pub returns-clause-same : goal.returns-clause-same
+returns-clause-same c =
     let t = c.args.self.now.rest.now in
-    let e = inside_more t c.loop-i.i c.loop-i-test.true in grind (arith, nat_tests)
-
-pub returns : goal.returns
-returns c =
-    let t = c.args.self.now.rest.now in
-    let e = inside_none t c.loop-i.i c.loop-i-test.false in
-    let i : c.loop-i.i ≡ length t = omega arith in record { same = grind (arith, nat_tests); within = tt }
+    let n = had c.line_end.result c.stuck.result c.in_ok-end.end c.in_ok-end.ensures.value in
+    sym (ap (refused c.args.self.now.line) (inside_position t c.line_end.result c.line_end.ensures ∙ ap (noted (length t)) n))

@@ -1,0 +1,43 @@
+// Bytes as pairs of uppercase hexadecimal digits.
+ghost use Rattle.std.specs.Prelude.{◌≡◌, ◌<◌, IfSome};
+ghost use Rattle.listing.specs.Hex.{glyph as hex};
+ghost use Rattle.listing.specs.Scan.{digit_of, joined};
+ghost use Rattle.listing.specs.Writing.{pair_text};
+
+// The value of a digit. `char::to_digit` takes lower case too.
+pub fn digit(byte: u8) -> Option<u8>
+    ensures value { result ≡ digit_of byte }
+    ensures small { IfSome result (λ v. v < 16) }
+{
+    match byte {
+        b'0'..=b'9' => Some(byte - b'0'),
+        b'A'..=b'F' => Some(byte - b'A' + 10),
+        _ => None,
+    }
+}
+
+// The byte that two digits spell, the high one first.
+pub fn byte(high: u8, low: u8) -> Option<u8>
+    ensures { result ≡ joined (digit_of high) (digit_of low) }
+{
+    Some(digit(high)? * 16 + digit(low)?)
+}
+
+// The digit of a value below 16. `char::from_digit` gives lower case.
+fn glyph(value: u8) -> u8
+    requires { value < 16 }
+    ensures { result ≡ hex value }
+{
+    if value < 10 {
+        b'0' + value
+    } else {
+        b'A' - 10 + value
+    }
+}
+
+// The pair of a byte.
+pub fn pair(byte: u8) -> [u8; 2]
+    ensures { result ≡ pair_text byte }
+{
+    [glyph(byte / 16), glyph(byte % 16)]
+}
