@@ -83,6 +83,7 @@ fn geometry(sectors: usize, pages: usize) -> anyhow::Result<Geometry> {
 // The most bytes that were asked of a memory.
 fn worst(heap: Global, geometry: Geometry) -> anyhow::Result<usize> {
     let mut most = 0;
+    // not a chain: what cannot be allocated ends it by `?`
     for number in 0..TRIED {
         let trial = make(heap, geometry.size(), number)?;
         most = most.max(ask(heap, geometry, trial)?.bytes);

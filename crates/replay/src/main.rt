@@ -33,6 +33,7 @@ fn replay(
     // a frame's byte takes two digits and a space
     let mut room = vec![in heap; 0u8; text.len() / 3 + 1]?;
     let mut reader = Reader::new(text);
+    // not `while let` with `?`: a refusal is a line of the output, and no error of this function
     loop {
         match reader.next_line() {
             Ok(Some(line)) => play(chip, line, &mut room, out)?,
