@@ -12,13 +12,11 @@ use memory::geometry::{Geometry, MOST_PAGES, MOST_SECTORS};
 use memory::model::PAGE_BYTES;
 use part::plain::PlainImage;
 use std::alloc::Global;
-use trials::trial::Trial;
+use trials::trial::{OPEN, Trial};
 
 const SECTOR: usize = MOST_PAGES * PAGE_BYTES;
 
 const BYTES: usize = MOST_SECTORS * SECTOR;
-
-const OPEN: u8 = 0x80;
 
 // Writes tried on each small memory.
 const TRIED: usize = 4000;

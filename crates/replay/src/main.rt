@@ -15,6 +15,7 @@ use std::io::{Read, Write};
 // What is read of the standard input.
 const MOST: u64 = 65536;
 
+// The bench chip of this program: each program chooses its own.
 const CAPACITY: u8 = 0x0B;
 
 const BYTES: usize = 2048;

@@ -15,6 +15,7 @@ use port::bench::BenchChip;
 use port::fault::PortFault;
 use port::port::Port;
 
+// The bench chip of this program: each program chooses its own.
 const CAPACITY: u8 = 0x18;
 
 const BYTES: usize = MOST_SECTORS * MOST_PAGES * PAGE_BYTES;
