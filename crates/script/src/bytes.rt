@@ -1,4 +1,4 @@
-// Copiess of bytes in a script.
+// Bytes in a script, as its words spell them.
 ghost use Rattle.std.specs.Prelude.{◌≤◌, IfOk, vec_len};
 
 use crate::fault::Fault;
