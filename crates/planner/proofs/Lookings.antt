@@ -98,9 +98,6 @@ module _ (m : Meaning) (q : ℕ) (R : Readable m q) where
   length-here = length-block (q * 64) 64 m.image (omega (arith, page-inside, R.sound.imaged.whole))
 
   module _ (address : ℕ) (bytes : List ℕ) (F : Fitting m address bytes) where
-    pub write_low : address + length bytes ≤ 16777216
-    write_low = omega (arith, F.inside, size_is m F.sound, pages_most m F.sound)
-
     pub page-wanted : page 64 q (wanted m address bytes) ≡ overlaid address bytes (q * 64) (page 64 q m.image)
     page-wanted =
         block-wanted address bytes m.image (omega (arith, F.inside, F.sound.imaged.whole)) (q * 64) 64

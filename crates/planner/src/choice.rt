@@ -9,11 +9,12 @@ ghost use Rattle.planner.specs.Looking.{Fitting, LookedBy};
 ghost use Rattle.planner.specs.Survey.{below, by_sectors, erases, kept, on_all, preset, preset_on};
 ghost use Rattle.planner.specs.Choice.{Chosen};
 
-use crate::chosen::{Choice, Erasure, MOST_SECTORS};
+use crate::chosen::{Choice, Erasure};
 use crate::look::protects;
 use crate::overlay::Write;
 use crate::survey::{Costs, erase_costs, touched_costs};
 use least::cost::Cost;
+use memory::geometry::MOST_SECTORS;
 use part::part::Part;
 
 // Whether a sector is erased first, and what it then costs.

@@ -1,8 +1,7 @@
 // What was chosen for a write.
 
 use least::cost::Cost;
-
-pub const MOST_SECTORS: usize = 128;
+use memory::geometry::MOST_SECTORS;
 
 // What is erased first: all, or the sectors that are marked.
 #[derive(Clone, Copy)]

@@ -31,7 +31,7 @@ pub(crate) fn protects<P: Part>(part: &P, sector: usize) -> bool
 
 // Whether a write has bytes for page q.
 pub(crate) fn touches(write: Write<'_>, q: usize) -> bool
-    requires { (q < 262144) × (write.address + length write.bytes.now ≤ 16777216) }
+    requires { q < 262144 }
     ensures { result ≡ touched write.entry.address write.entry.bytes.now q }
 {
     let start = q * PAGE_BYTES;

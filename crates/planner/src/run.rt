@@ -7,10 +7,9 @@ use crate::run_fault::RunFault;
 use crate::send::send;
 use crate::wait::wait;
 use least::step::Step;
+pub use part::limit::MOST_POLLS;
+use part::limit::is_limit;
 use part::part::Part;
-
-// The most polls that a caller may wait for.
-pub const MOST_POLLS: usize = 4096;
 
 // Waits until nothing is due, then sends the steps in their order and waits after each, by at most `limit` polls.
 // Answers how many cycles were sent.
@@ -23,7 +22,7 @@ pub fn run<P: Part>(
     ensures ran { Ran P.Part.meaning P.Part.trace P.Part.intact «data».now limit steps.now part.old part.new result }
     ensures did { Did P.Part.meaning P.Part.trace P.Part.intact «data».now (cycles_of «data».now (take (sent_before result) steps.now)) part.old part.new }
 {
-    if limit == 0 || limit > MOST_POLLS {
+    if !is_limit(limit) {
         return Err(RunFault::Limit(limit));
     }
     if !wait(part, limit) {

@@ -2,13 +2,13 @@ use Rattle.std.proofs.Common.{◌≡◌, min, length, Some, None, sym, refl, ari
 use Rattle.memory.specs.Page.{page}
 use Rattle.planner.specs.Looking.{wanted}
 use Rattle.planner.proofs.Barrings.{first_of}
-use Rattle.planner.proofs.Lookings.{looked_none, page-low, page_off, write_low}
+use Rattle.planner.proofs.Lookings.{looked_none, page-low, page_off}
 use Rattle.planner.proofs.barred.change.Goals as goal
 
 pub touches-requires : goal.touches-requires
 touches-requires g c =
     let m = g.P.Part.meaning c.args.part.now in
-    (page-low m c.args.q c.requires.1, write_low m c.args.q c.requires.1 c.args.write.address c.args.write.bytes.now c.requires.0)
+    page-low m c.args.q c.requires.1
 
 pub returns-then-not-touches : goal.returns-then-not-touches
 returns-then-not-touches g c =

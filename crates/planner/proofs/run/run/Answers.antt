@@ -18,8 +18,8 @@ done : (g : given.Over) (sent : List ℕ) (limit : ℕ) (steps : List Step) (a b
 done g sent limit steps a b r x =
     ran_did g.P.Part.meaning g.P.Part.trace g.P.Part.intact g.met.P.Part.stays g.met.P.Part.joins sent limit steps a b r x
 
-pub returns-then-limit-eq0 : goal.returns-then-limit-eq0
-returns-then-limit-eq0 g c =
+pub returns-then-not-is_limit : goal.returns-then-not-is_limit
+returns-then-not-is_limit g c =
     let x : Ran g.P.Part.meaning g.P.Part.trace g.P.Part.intact c.args.data.now c.args.limit c.args.steps.now c.args.part.now c.args.part.now (Err (Limit c.args.limit)) =
     no_limit (grind (arith, nat_tests)) refl in
     record { ran = x; did = done g c.args.data.now c.args.limit c.args.steps.now c.args.part.now c.args.part.now (Err (Limit c.args.limit)) x }

@@ -4,14 +4,14 @@ use Rattle.least.specs.Fewest.{fewest}
 use Rattle.least.specs.Window.{window}
 use Rattle.least.specs.Plan.{window_cost}
 use Rattle.planner.specs.Looking.{LookedBy}
-use Rattle.planner.proofs.Lookings.{looked_none, page-low, write_low}
+use Rattle.planner.proofs.Lookings.{looked_none, page-low}
 use Rattle.planner.proofs.Surveys.{preset_off_lem}
 use Rattle.planner.proofs.survey.rest_cost.Goals as goal
 
 pub touches-requires : goal.touches-requires
 touches-requires g c =
     let m = g.P.Part.meaning c.args.part.now in
-    (page-low m c.args.q c.requires.1, write_low m c.args.q c.requires.1 c.args.write.address c.args.write.bytes.now c.requires.0)
+    page-low m c.args.q c.requires.1
 
 pub returns-then-touches : goal.returns-then-touches
 returns-then-touches g c =
