@@ -2,7 +2,7 @@
 // covers is not.
 use memory::model::PAGE_BYTES;
 use std::alloc::{AllocError, Global};
-use trials::trial::{Trial, fill};
+use trials::trial::{OPEN, Trial, fill};
 
 // One value over so many bytes from an address on.
 #[derive(Clone, Copy)]
@@ -71,7 +71,7 @@ impl Picker {
 pub(crate) fn make(heap: Global, size: usize, number: usize) -> Result<Trial, AllocError> {
     let mut picker = Picker { last: number };
     let covered = picker.pick_stretch(size);
-    let mut trial = Trial::blank(heap, size, 0x80, covered.address, covered.length)?;
+    let mut trial = Trial::blank(heap, size, OPEN, covered.address, covered.length)?;
     covered.fill(&mut trial.image);
     for _ in 0..picker.pick(4) {
         fill(&mut trial.image, picker.pick(size), 1, 0);

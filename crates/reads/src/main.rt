@@ -12,13 +12,11 @@ use memory::geometry::{Geometry, MOST_PAGES, MOST_SECTORS};
 use memory::model::PAGE_BYTES;
 use part::plain::PlainImage;
 use std::alloc::Global;
-use trials::trial::Trial;
+use trials::trial::{OPEN, Trial};
 
 const SECTOR: usize = MOST_PAGES * PAGE_BYTES;
 
 const BYTES: usize = MOST_SECTORS * SECTOR;
-
-const OPEN: u8 = 0x80;
 
 // Writes tried on each small memory.
 const TRIED: usize = 4000;
@@ -83,6 +81,7 @@ fn geometry(sectors: usize, pages: usize) -> anyhow::Result<Geometry> {
 // The most bytes that were asked of a memory.
 fn worst(heap: Global, geometry: Geometry) -> anyhow::Result<usize> {
     let mut most = 0;
+    // not a chain: what cannot be allocated ends it by `?`
     for number in 0..TRIED {
         let trial = make(heap, geometry.size(), number)?;
         most = most.max(ask(heap, geometry, trial)?.bytes);

@@ -15,6 +15,7 @@ use std::io::{Read, Write};
 // What is read of the standard input.
 const MOST: u64 = 65536;
 
+// The bench chip of this program: each program chooses its own.
 const CAPACITY: u8 = 0x0B;
 
 const BYTES: usize = 2048;
@@ -33,6 +34,7 @@ fn replay(
     // a frame's byte takes two digits and a space
     let mut room = vec![in heap; 0u8; text.len() / 3 + 1]?;
     let mut reader = Reader::new(text);
+    // not `while let` with `?`: a refusal is a line of the output, and no error of this function
     loop {
         match reader.next_line() {
             Ok(Some(line)) => play(chip, line, &mut room, out)?,

@@ -72,5 +72,6 @@ pub(crate) fn play(
     }
     let mut bytes = [0u8; MOST_BACK];
     let count = wanted(line.count);
+    // the buffers are lent, so that a line allocates nothing
     play_frame(chip, &room[0..n], &mut bytes[0..count], out)
 }

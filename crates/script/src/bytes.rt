@@ -1,4 +1,4 @@
-// Runs of bytes in a script.
+// Bytes in a script, as its words spell them.
 ghost use Rattle.std.specs.Prelude.{◌≤◌, IfOk, vec_len};
 
 use crate::fault::Fault;
@@ -10,21 +10,21 @@ use std::str::FromStr;
 pub(crate) const MOST: usize = 16777216;
 
 // A byte, so many times.
-struct Run {
+struct Copies {
     count: usize,
     value: u8,
 }
 
-impl FromStr for Run {
+impl FromStr for Copies {
     type Err = Fault;
 
     // `N*BB` is N copies of a byte, and `BB` one.
-    fn from_str(word: &str) -> Result<Run, Fault> {
+    fn from_str(word: &str) -> Result<Copies, Fault> {
         let (count, value) = match word.split_once('*') {
             Some((count, value)) => (decimal(count)?, value),
             None => (1, word),
         };
-        Ok(Run {
+        Ok(Copies {
             count,
             value: byte(value)?,
         })
@@ -37,7 +37,7 @@ pub(crate) fn bytes(heap: Global, words: &[&str]) -> Result<Vec<u8>, Fault>
 {
     let mut bytes = Vec::new(heap);
     for word in words {
-        let Run { count, value } = word.parse()?;
+        let Copies { count, value } = word.parse()?;
         if count > MOST - bytes.len() {
             return Err(Fault::Bytes);
         }

@@ -68,6 +68,7 @@ impl Reading {
         self.script.ok_or(Fault::NoChip)
     }
 
+    // Each command takes its words apart by a pattern that reads as its usage does: a helper by their number would be no plainer.
     fn set_chip(&mut self, arguments: &[&str]) -> Result<(), Fault> {
         let [capacity, status, busy] = arguments else {
             return Err(Fault::Words(Command::Chip));

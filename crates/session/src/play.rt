@@ -14,6 +14,7 @@ pub(crate) fn play(heap: Global, script: Script) -> anyhow::Result<String> {
     let mut steps = vec![in heap; Step::UNUSED; script.room.steps]?;
     let mut data = vec![in heap; 0; script.room.bytes]?;
     let played = perform_attached(heap, chip, MOST_POLLS, script.calls, &mut steps, &mut data);
+    // a match in place of `?`: it proves that attaching does not fail
     let record = match played {
         Ok(Performed { record, fence: _ }) => record,
         Err(

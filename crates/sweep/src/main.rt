@@ -6,6 +6,7 @@ use anyhow::anyhow;
 use driver::attach::attach;
 use least::step::Step;
 use memory::bytes::is_blank;
+use memory::geometry::{MOST_PAGES, MOST_SECTORS};
 use memory::model::PAGE_BYTES;
 use part::part::Part;
 use part::plain::PlainImage;
@@ -14,13 +15,10 @@ use port::bench::BenchChip;
 use port::fault::PortFault;
 use port::port::Port;
 
+// The bench chip of this program: each program chooses its own.
 const CAPACITY: u8 = 0x18;
 
-const BYTES: usize = 16777216;
-
-const SECTORS: usize = 128;
-
-const PAGES: usize = 2048;
+const BYTES: usize = MOST_SECTORS * MOST_PAGES * PAGE_BYTES;
 
 const STATUS: u8 = 0x80;
 
@@ -75,7 +73,7 @@ fn plan_all(rt: &HostRuntime) -> anyhow::Result<()> {
     let bytes = vec![in heap; 0xA5; BYTES]?;
     let mut steps = vec![in heap; Step::UNUSED; BYTES / PAGE_BYTES]?;
     let mut data = vec![in heap; 0; BYTES]?;
-    let mut part = PlainImage::new(SECTORS, PAGES, STATUS, image).map_err(|_| anyhow!(
+    let mut part = PlainImage::new(MOST_SECTORS, MOST_PAGES, STATUS, image).map_err(|_| anyhow!(
         "the plain image cannot be made"
     ))?;
     let (cycles, sent) = plan(&mut part, 0, &bytes, &mut steps, &mut data).map_err(|_| anyhow!(

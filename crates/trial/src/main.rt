@@ -22,6 +22,7 @@ const SECTORS: usize = 8;
 
 const PAGES: usize = 4;
 
+// The bench chip of this program: each program chooses its own.
 const CAPACITY: u8 = 0x0B;
 
 const BUSY: usize = 2;

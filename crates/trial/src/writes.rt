@@ -1,12 +1,10 @@
 // The writes that are tried, each on the bench's memory of 2,048 bytes.
 use std::alloc::{AllocError, Global};
-use trials::trial::{Trial, fill};
+use trials::trial::{OPEN, Trial, fill};
 
 pub const BYTES: usize = 2048;
 
-// Nothing is protected; the highest sector is.
-const OPEN: u8 = 0x80;
-
+// The highest sector is protected.
 const TOP: u8 = 0x84;
 
 // FFh everywhere, and a write of n bytes FFh.

@@ -3,6 +3,9 @@ ghost use Rattle.std.specs.Prelude.{◌≡◌, ◌+◌, ◌-◌, ◌++◌, lengt
 
 use std::alloc::{AllocError, Global};
 
+// The status byte of a memory in which nothing is protected.
+pub const OPEN: u8 = 0x80;
+
 // A status byte, what the memory holds, and the write.
 #[derive(Drop)]
 pub struct Trial {

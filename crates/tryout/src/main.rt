@@ -16,6 +16,7 @@ const CAPACITIES: [u8; 4] = [0x0B, 0x16, 0x17, 0x18];
 // The highest sector is protected.
 const STATUS: u8 = 0x84;
 
+// The bench chips of this program: each program chooses its own.
 const BUSY: usize = 2;
 
 const LIMIT: usize = 3;
