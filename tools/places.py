@@ -12,16 +12,11 @@ import pathlib
 import re
 import sys
 
-# kind: what it is, and a pattern (a match is a place) or a function over all files
+# kind: what it is, and what finds its places in all files
 KINDS = {}
 
 
-def kind(name, what, pattern=None):
-    def add(f):
-        KINDS[name] = (what, f)
-        return f
-    if pattern is None:
-        return add
+def kind(name, what, pattern):
     rx = re.compile(pattern, re.M | re.S)
 
     def by_pattern(files):
@@ -48,30 +43,25 @@ kind('1j', 'a value that stands for none', r'fn byte_at\([^{]*\{')
 
 
 # 2. twins
-def named(files, rx):
-    where = collections.defaultdict(list)
-    for path, text in files.items():
-        for m in re.finditer(rx, text, re.M):
-            where[m.group('name')].append((path, text.count('\n', 0, m.start()) + 1, m.group(0).strip()))
-    for name, places in sorted(where.items()):
-        if len({p for p, _, _ in places}) > 1:
-            yield from places
+def named(name, what, pattern):
+    """Names that the pattern finds at the head of a line in two files or more."""
+    rx = re.compile(pattern, re.M)
+
+    def by_name(files):
+        where = collections.defaultdict(list)
+        for path, text in files.items():
+            for m in rx.finditer(text):
+                where[m.group(1)].append((path, text.count('\n', 0, m.start()) + 1, m.group(0).strip()))
+        for _, places in sorted(where.items()):
+            if len({path for path, _, _ in places}) > 1:
+                yield from places
+    KINDS[name] = (what, by_name)
 
 
-@kind('2a', 'free functions whose name stands in two files or more')
-def functions(files):
-    return named(files, r'^(?:pub(?:\(crate\))? )?(?:const )?fn (?P<name>(?!main\b)\w+)')
-
-
-@kind('2b', 'constants whose name stands in two files or more')
-def constants(files):
-    return named(files, r'^(?:pub(?:\(crate\))? )?const (?P<name>\w+):')
-
-
-@kind('2c', 'types whose name stands in two files or more')
-def types(files):
-    return named(files, r'^(?:pub(?:\(crate\))? )?(?:struct|enum) (?P<name>\w+)')
-
+VISIBLE = r'^(?:pub(?:\(crate\))? )?'
+named('2a', 'free functions whose name stands in two files or more', VISIBLE + r'(?:const )?fn ((?!main\b)\w+)')
+named('2b', 'constants whose name stands in two files or more', VISIBLE + r'const (\w+):')
+named('2c', 'types whose name stands in two files or more', VISIBLE + r'(?:struct|enum) (\w+)')
 
 kind('2d', 'two loops, or two functions of a page, that differ in what they call', r'fn (?:keep|preset)_pages?\b')
 kind('2e', 'a status byte looked at by a mask or a remainder', r'(?:status|byte) (?:& (?:BLOCK_PROTECT|TB|BP3)|% 4)|status < SRWD')
