@@ -1,5 +1,5 @@
 -- A line as the reader finds it and as the grammar has it.
-use Rattle.std.proofs.Common.{◌≡◌, ℕ, ◌+◌, ◌-◌, Bool, true, false, cond, eqb, List, [], ◌∷◌, ◌++◌, length, get_or, take, drop, Ok, Err, Result, sym, refl, ap, ◌∙◌, subst, append_assoc, arith, length-append}
+use Rattle.std.proofs.Common.{◌≡◌, ℕ, ◌+◌, ◌-◌, ◌<◌, Bool, true, false, cond, eqb, List, [], ◌∷◌, ◌++◌, length, get_or, take, drop, Ok, Err, Result, sym, refl, ap, ◌∙◌, subst, append_assoc, arith, length-append}
 use Rattle.std.proofs.lemmas.Bool.{eqb-true, eqb-false}
 use Rattle.std.proofs.lemmas.List.{take_at, drop_at, take_rest}
 use Rattle.listing.specs.declared.extent.Extent.{Extent}
@@ -10,7 +10,7 @@ use Rattle.listing.specs.declared.item.Line.{Line}
 use Rattle.listing.specs.Parts.{note, frame, count, Spot, spot, spots_of, Exchange, exchange}
 use Rattle.listing.specs.Grammar.{LineText, noted, framed, counted, start, opens, Stops}
 use Rattle.listing.specs.Fault.{row, malformed_at}
-use Rattle.listing.specs.Scan.{pairs, inside, scan, refused, size_of, spots_by}
+use Rattle.listing.specs.Scan.{pairs, inside, scan, refused, Sized, size_of, spots_by}
 use Rattle.listing.specs.Promise.{Taken}
 use Rattle.listing.proofs.Digits.{pair_size}
 use Rattle.listing.proofs.Sound as sound
@@ -47,6 +47,7 @@ pub record Found (l : ℕ) (s : List ℕ) (x : Extent) : Type 0 where
   pub reads : LineText l text (spots_by l s x) exchanges
   pub split : s ≡ text ++ 10 ∷ left
   pub size : size_of x ≡ length text
+  pub sized : Sized x (length s)
 
 abbrev pub LineIs : ℕ → List ℕ → Result Extent ℕ → Type 0
 LineIs l s (Ok x) = Found l s x
@@ -76,6 +77,7 @@ of_pairs l s h (sound.framed {w} {bs} t e ps x f) =
       reads = let P : List Spot → Type 0 = λ y. LineText l w y (exchange bs 0 ∷ []) in subst P (sym i) (framed ps);
       split = x;
       size = n;
+      sized = let q = ap length x in let a = length-append w (10 ∷ t) in omega arith;
     }
 of_pairs l s h (sound.counted {w} {bs} {v} {n} t e ps p z x f) =
     let k = pair_size p in
@@ -88,6 +90,10 @@ of_pairs l s h (sound.counted {w} {bs} {v} {n} t e ps p z x f) =
       reads = let P : List Spot → Type 0 = λ y. LineText l (w ++ 32 ∷ 62 ∷ 32 ∷ v) y (exchange bs n ∷ []) in subst P (sym i) (counted ps p z);
       split = x;
       size = let a = length-append w (32 ∷ 62 ∷ 32 ∷ v) in omega arith;
+      sized =
+          let q = ap length x in
+          let a = length-append (w ++ 32 ∷ 62 ∷ 32 ∷ v) (10 ∷ t) in
+          let b = length-append w (32 ∷ 62 ∷ 32 ∷ v) in (omega arith, omega arith);
     }
 of_pairs l s h (sound.fails e b) = stops s e h b
 
@@ -103,6 +109,7 @@ of_note l s r h y (sound.noted {w} t e u x f) =
       reads = let P : List Spot → Type 0 = λ q. LineText l (59 ∷ w) q [] in subst P (sym i) (noted u);
       split = z;
       size = n;
+      sized = let q = ap length z in let a = length-append (59 ∷ w) (10 ∷ t) in omega arith;
     }
 of_note l s r h y (sound.fails e b) = stops s e h (broke_step 0 1 s r e opens (omega arith) y b)
 
@@ -118,6 +125,10 @@ line-sound l s h = go (eqb (get_or s 0 0) 59) refl
     go : (b : Bool) → eqb (get_or s 0 0) 59 ≡ b → LineIs l s (cond b (inside 0 s) (pairs 0 s))
     go true e = inner (drop 1 s) (begins s 59 (omega arith) (eqb-true _ _ e))
     go false e = of_pairs l s h (pairs-sound (length s) 0 s start (omega arith) (sound.at_start (eqb-false _ _ e)))
+
+-- it ends before the text does
+pub found_within : {l : ℕ} {s : List ℕ} {x : Extent} → Found l s x → size_of x < length s
+found_within f = let e = ap length f.split in let a = length-append f.text (10 ∷ f.left) in let n = f.size in omega arith
 
 -- what the reader's answer says, from what it found
 pub found : (l : ℕ) (s : List ℕ) (x : Extent) (o : Result Extent ℕ) → Ok x ≡ refused l o → LineIs l s o → Found l s x

@@ -13,6 +13,7 @@ mod plan_refusal;
 mod plan_text;
 pub mod reader;
 pub mod rewrite;
+mod room;
 mod sheet;
 #[cfg(test)]
 mod tests;

@@ -1,37 +1,23 @@
 // The bytes of a frame or a count.
-ghost use Rattle.std.specs.Prelude.{◌≡◌, ◌+◌, ◌-◌, ◌^◌, ◌<◌, length};
-ghost use Rattle.listing.specs.declared.fault.ListingFault.TheVariants.{Malformed};
+ghost use Rattle.std.specs.Prelude.{◌≡◌, length};
 ghost use Rattle.listing.specs.Values.{values, good, tallied, Spelled, read_answer, read_into};
 
 use crate::bytes::pair;
 use crate::fault::ListingFault;
-
-// The refusal of a text that breaks after `at` bytes.
-fn broken(at: usize) -> ListingFault
-    requires { at < 2 ^ 64 - 1 }
-    ensures { result ≡ Malformed 1 (at + 1) }
-{
-    ListingFault::Malformed {
-        line: 1,
-        column: at + 1,
-    }
-}
+use crate::room::check_room;
 
 // How many pairs a text has, or where it breaks.
 fn count_pairs(pairs: &[u8]) -> Result<usize, ListingFault>
     ensures { result ≡ tallied 0 (values 0 pairs.now) }
 {
-    let mut count = 0;
-    // `at` is also the place that is told, so an iterator would have to count beside it.
+    // By chunks of three a space at the end, with no pair after it, would need a test of its own.
     let mut at = 0;
     loop {
-        pair(&pairs[at..]).ok_or(broken(at))?;
-        count += 1;
-        at += 2;
-        match pairs.get(at) {
-            None => return Ok(count),
-            Some(b' ') => at += 1,
-            Some(_) => return Err(broken(at)),
+        pair(&pairs[at..]).ok_or(ListingFault::after(1, at))?;
+        match pairs.get(at + 2) {
+            None => return Ok(at / 3 + 1),
+            Some(b' ') => at += 3,
+            Some(_) => return Err(ListingFault::after(1, at + 2)),
         }
     }
 }
@@ -41,14 +27,10 @@ fn copy_values(pairs: &[u8], into: &mut [u8])
     requires { length into.old ≡ length (good (values 0 pairs.now)) }
     ensures { into.new ≡ good (values 0 pairs.now) }
 {
-    // In a `zip` with the chunks of the text the proof would not know what was written.
-    let mut at = 0;
-    for byte in into.iter_mut() {
-        let Some(value) = pair(&pairs[at..]) else {
-            return;
-        };
-        *byte = value;
-        at += 3;
+    for (i, byte) in into.iter_mut().enumerate() {
+        if let Some(value) = pair(&pairs[3 * i..]) {
+            *byte = value;
+        }
     }
 }
 
@@ -60,11 +42,7 @@ pub fn read_pairs(pairs: &[u8], into: &mut [u8]) -> Result<usize, ListingFault>
     ensures spelled { Spelled pairs.now }
 {
     let count = count_pairs(pairs)?;
-    if into.len() < count {
-        return Err(ListingFault::TextShort {
-            needed: count as u128,
-        });
-    }
+    check_room(count as u128, into)?;
     copy_values(pairs, &mut into[..count]);
     Ok(count)
 }

@@ -8,6 +8,7 @@ ghost use Rattle.listing.specs.Writing.{AllReadBack};
 use crate::plan_fault::PlanListingFault;
 use crate::plan_refusal::check_steps;
 use crate::plan_text::{put_steps, text_len};
+use crate::room::check_room;
 use crate::sheet::Sheet;
 use least::step::Step;
 
@@ -23,9 +24,7 @@ pub fn list_plan(steps: &[Step], data: &[u8], into: &mut [u8]) -> Result<usize, 
 {
     check_steps(steps, data)?;
     let needed = text_len(steps, data);
-    if (into.len() as u128) < needed {
-        return Err(PlanListingFault::TextShort { needed });
-    }
+    check_room(needed, into)?;
     let mut sheet = Sheet::new(into);
     put_steps(steps, data, &mut sheet);
     Ok(sheet.at)

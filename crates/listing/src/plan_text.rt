@@ -23,52 +23,18 @@ const ENABLE_LINE: usize = 3;
 
 const PAIR: usize = 3;
 
-// The data that a step sends: none for an erase.
-fn sent_by<'a>(step: &Step, data: &'a [u8]) -> &'a [u8]
-    requires { unlisted «data».now step.now ≡ None }
-    ensures { result.now ≡ sent_by (step_cycle «data».now step.now) }
-{
-    match step.kind {
-        Kind::Program | Kind::Alter | Kind::Preset => {
-            &data[step.place..step.place + step.length]
-        }
-        Kind::SectorErase | Kind::BulkErase => &[],
-    }
-}
-
-// The length of a step's two lines.
-fn step_len(step: &Step, data: &[u8]) -> usize
-    requires { unlisted «data».now step.now ≡ None }
-    ensures exact { result ≡ length (plan_text «data».now (step.now ∷ [])) }
-    ensures most { result ≤ 207 }
-{
-    let row = Instruction::of(Operation::from(step.kind));
-    let head = 1 + row.address as usize + row.dummy as usize;
-    ENABLE_LINE + PAIR * (head + sent_by(step, data).len())
-}
-
-// The length of the text of a plan. It can be longer than any buffer.
-pub(crate) fn text_len(steps: &[Step], data: &[u8]) -> u128
-    requires { first_unlisted «data».now steps.now ≡ None }
-    ensures { result ≡ length (plan_text «data».now steps.now) }
-{
-    // By `map` and `sum` it was not proved that each call has a step that is listed, nor what the sum is.
-    let mut needed: u128 = 0;
-    for step in steps {
-        needed += step_len(step, data) as u128;
-    }
-    needed
-}
-
 // Writes the line of a frame's bytes, with nothing wanted back.
 fn put_bytes(sent: &[u8], sheet: &mut Sheet)
     requires some { 0 < length sent.now }
     requires room { Room sheet.old (line_text (exchange sent.now 0)) }
     ensures { Wrote sheet.old sheet.new (line_text (exchange sent.now 0)) }
 {
+    let [code, rest @ ..] = sent else {
+        unreachable!()
+    };
     let line = Frame {
-        code: sent[0],
-        rest: &sent[1..],
+        code: *code,
+        rest,
         back: 0,
     };
     put_line(line, sheet);
@@ -80,6 +46,7 @@ fn put_frame(operation: Operation, address: usize, data: &[u8], sheet: &mut Shee
     requires room { Room sheet.old (line_text (exchange (built operation address «data».now) 0)) }
     ensures { Wrote sheet.old sheet.new (line_text (exchange (built operation address «data».now) 0)) }
 {
+    // There is no heap here: the frame is put together in a fixed buffer, of which it takes the first n bytes.
     let mut frame = [0; LONGEST_FRAME];
     let Ok(n) = build(operation, address, data, &mut frame) else {
         unreachable!()
@@ -87,15 +54,60 @@ fn put_frame(operation: Operation, address: usize, data: &[u8], sheet: &mut Shee
     put_bytes(&frame[0..n], sheet);
 }
 
-// Writes the two lines of a step.
-fn put_step(step: &Step, data: &[u8], sheet: &mut Sheet)
-    requires listable { unlisted «data».now step.now ≡ None }
-    requires room { Room sheet.old (plan_text «data».now (step.now ∷ [])) }
-    ensures { Wrote sheet.old sheet.new (plan_text «data».now (step.now ∷ [])) }
+// A step that can be listed, with the data that it points into.
+#[derive(Clone, Copy)]
+struct Listed<'a> {
+    step: &'a Step,
+    data: &'a [u8],
+    ghost listed: { unlisted «data».now step.now ≡ None },
+}
+
+impl<'a> Listed<'a> {
+    // The data that the step sends: none for an erase.
+    fn sent(&self) -> &'a [u8]
+        ensures { result.now ≡ sent_by (step_cycle self.now.«data».now self.now.step.now) }
+    {
+        let step = self.step;
+        match step.kind {
+            Kind::Program | Kind::Alter | Kind::Preset => {
+                &self.data[step.place..step.place + step.length]
+            }
+            Kind::SectorErase | Kind::BulkErase => &[],
+        }
+    }
+
+    // The length of its two lines.
+    fn len(&self) -> usize
+        ensures exact { result ≡ length (plan_text self.now.«data».now (self.now.step.now ∷ [])) }
+        ensures most { result ≤ 207 }
+    {
+        let row = Instruction::of(Operation::from(self.step.kind));
+        let head = 1 + row.address as usize + row.dummy as usize;
+        ENABLE_LINE + PAIR * (head + self.sent().len())
+    }
+
+    // Writes its two lines.
+    fn put(&self, sheet: &mut Sheet)
+        requires { Room sheet.old (plan_text self.now.«data».now (self.now.step.now ∷ [])) }
+        ensures { Wrote sheet.old sheet.new (plan_text self.now.«data».now (self.now.step.now ∷ [])) }
+    {
+        put_frame(Operation::WriteEnable, 0, &[], sheet);
+        let sent = self.sent();
+        put_frame(self.step.kind.into(), self.step.address, sent, sheet);
+    }
+}
+
+// The length of the text of a plan. It can be longer than any buffer.
+pub(crate) fn text_len(steps: &[Step], data: &[u8]) -> u128
+    requires { first_unlisted «data».now steps.now ≡ None }
+    ensures { result ≡ length (plan_text «data».now steps.now) }
 {
-    put_frame(Operation::WriteEnable, 0, &[], sheet);
-    let sent = sent_by(step, data);
-    put_frame(step.kind.into(), step.address, sent, sheet);
+    // By `map` and `sum` it was not proved that each call has a step that is listed, nor what the sum is.
+    let mut needed: u128 = 0;
+    for step in steps {
+        needed += Listed { step, data }.len() as u128;
+    }
+    needed
 }
 
 // Writes the text of a plan.
@@ -105,6 +117,6 @@ pub(crate) fn put_steps(steps: &[Step], data: &[u8], sheet: &mut Sheet)
     ensures { Wrote sheet.old sheet.new (plan_text «data».now steps.now) }
 {
     for step in steps {
-        put_step(step, data, sheet);
+        Listed { step, data }.put(sheet);
     }
 }

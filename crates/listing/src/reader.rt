@@ -1,5 +1,5 @@
 // Reading a listing line by line.
-ghost use Rattle.std.specs.Prelude.{◌≡◌, ℕ, ◌+◌, ◌-◌, ◌^◌, ◌<◌, ◌≤◌, List, [], ◌∷◌, length, drop, IfOk, Ok, Err, MatchResult};
+ghost use Rattle.std.specs.Prelude.{◌≡◌, ℕ, ◌+◌, ◌-◌, ◌^◌, ◌<◌, ◌≤◌, List, [], ◌∷◌, length, drop, Ok, Err, MatchResult};
 ghost use Rattle.listing.specs.declared.fault.ListingFault.TheVariants.{Malformed};
 ghost use Rattle.listing.specs.Parts.{spot, part_of, spot_of, spots_of};
 ghost use Rattle.listing.specs.Scan.{scan, inside, pairs, closing, at_mark, refused, Sized, size_of, spots_by};
@@ -38,16 +38,12 @@ impl<'a> Reader<'a> {
         requires { at < 2 ^ 64 - 1 }
         ensures { result ≡ Malformed self.now.line (at + 1) }
     {
-        ListingFault::Malformed {
-            line: self.line,
-            column: at + 1,
-        }
+        ListingFault::after(self.line, at)
     }
 
     // The note at the start of the rest.
     fn note(&self) -> Result<Extent, ListingFault>
-        ensures same { result ≡ refused self.now.line (inside 0 self.now.rest.now) }
-        ensures within { IfOk result (λ x. Sized x (length self.now.rest.now)) }
+        ensures { result ≡ refused self.now.line (inside 0 self.now.rest.now) }
     {
         let end = line_end(self.rest).ok_or(self.stuck(self.rest.len()))?;
         Ok(Extent::Note(end))
@@ -75,8 +71,7 @@ impl<'a> Reader<'a> {
     // The count after a `>`, with `gap` the place where a space has to stand.
     fn count(&self, gap: usize) -> Result<Extent, ListingFault>
         requires { (gap ≤ length self.now.rest.now + 1) × (2 ≤ gap) }
-        ensures same { result ≡ refused self.now.line (at_mark gap (drop gap self.now.rest.now)) }
-        ensures within { IfOk result (λ x. Sized x (length self.now.rest.now)) }
+        ensures { result ≡ refused self.now.line (at_mark gap (drop gap self.now.rest.now)) }
     {
         let rest = self.rest;
         let Some(b' ') = rest.get(gap) else {
@@ -96,8 +91,7 @@ impl<'a> Reader<'a> {
 
     // The frame at the start of the rest, with its count.
     fn frame(&self) -> Result<Extent, ListingFault>
-        ensures same { result ≡ refused self.now.line (pairs 0 self.now.rest.now) }
-        ensures within { IfOk result (λ x. Sized x (length self.now.rest.now)) }
+        ensures { result ≡ refused self.now.line (pairs 0 self.now.rest.now) }
     {
         let end = self.pairs_end()?;
         match self.rest.get(end) {
@@ -109,8 +103,7 @@ impl<'a> Reader<'a> {
 
     // What the line at the start of the rest holds.
     fn extent(&self) -> Result<Extent, ListingFault>
-        ensures same { result ≡ refused self.now.line (scan self.now.rest.now) }
-        ensures within { IfOk result (λ x. Sized x (length self.now.rest.now)) }
+        ensures { result ≡ refused self.now.line (scan self.now.rest.now) }
     {
         match self.rest.first() {
             Some(b';') => self.note(),

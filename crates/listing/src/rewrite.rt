@@ -9,6 +9,7 @@ ghost use Rattle.listing.specs.Writing.{held, frame_text, kept_of, kept_count};
 use crate::fault::ListingFault;
 use crate::item::{Item, Line, Placed};
 use crate::reader::Reader;
+use crate::room::check_room;
 use crate::sheet::Sheet;
 
 // The length of a count with the ` > ` before it, if there is one, and of the 0Ah that ends its line.
@@ -96,11 +97,7 @@ pub fn rewrite(text: &[u8], into: &mut [u8]) -> Result<usize, ListingFault>
     ensures { Rewrites text.now into.old into.new result }
 {
     let needed = rewritten_len(text)?;
-    if into.len() < needed {
-        return Err(ListingFault::TextShort {
-            needed: needed as u128,
-        });
-    }
+    check_room(needed as u128, into)?;
     copy_kept(text, into);
     Ok(needed)
 }

@@ -5,7 +5,7 @@ ghost use Rattle.listing.specs.Writing.{pair_text, spaced_text, back_text};
 
 use crate::hex::pair;
 
-// The buffer, and the length of the text at its start.
+// The buffer, and the length of the text at its start. The buffer is lent by the caller, as there is no heap here: so no `Vec`.
 #[derive(Drop)]
 pub(crate) struct Sheet<'a> {
     into: &'a mut [u8],

@@ -11,33 +11,30 @@ use least::step::Step;
 use memory::kind::Kind;
 use std::test::Fail;
 
-// Where a text fails, as line and column, and (0, 0) where it does not.
-fn place(text: &[u8]) -> (usize, usize) {
+// Where a text fails, as line and column, if it does.
+fn place(text: &[u8]) -> Option<(usize, usize)> {
     match rewritten_len(text) {
-        Err(ListingFault::Malformed { line, column }) => (line, column),
-        _ => (0, 0),
+        Err(ListingFault::Malformed { line, column }) => Some((line, column)),
+        _ => None,
     }
 }
 
 #[test]
 fn lines_fail_where_they_cannot_go_on(rt: HostRuntime) {
-    assert_eq!(rt; place(b"\n"), (1, 1));
-    assert_eq!(rt; place(b"0G\n"), (1, 1));
-    assert_eq!(rt; place(b"0"), (1, 1));
-    assert_eq!(rt; place(b"0a\n"), (1, 1));
-    assert_eq!(rt; place(b"06x\n"), (1, 3));
-    assert_eq!(rt; place(b"06"), (1, 3));
-    assert_eq!(rt; place(b"06 x\n"), (1, 4));
-    assert_eq!(rt; place(b"06 "), (1, 4));
-    assert_eq!(rt; place(b"06 >01\n"), (1, 5));
-    assert_eq!(rt; place(b"06 > 00\n"), (1, 6));
-    assert_eq!(rt; place(b"06 > 0"), (1, 6));
-    assert_eq!(rt; place(b"06 > 01 \n"), (1, 8));
-    assert_eq!(rt; place(b"06\n; no end"), (2, 9));
-    assert_eq!(rt;
-        place(b"; note\n05 > 01\n02 00 00 3E 11 22 33 44\n"),
-        (0, 0)
-    );
+    assert_eq!(rt; place(b"\n"), Some((1, 1)));
+    assert_eq!(rt; place(b"0G\n"), Some((1, 1)));
+    assert_eq!(rt; place(b"0"), Some((1, 1)));
+    assert_eq!(rt; place(b"0a\n"), Some((1, 1)));
+    assert_eq!(rt; place(b"06x\n"), Some((1, 3)));
+    assert_eq!(rt; place(b"06"), Some((1, 3)));
+    assert_eq!(rt; place(b"06 x\n"), Some((1, 4)));
+    assert_eq!(rt; place(b"06 "), Some((1, 4)));
+    assert_eq!(rt; place(b"06 >01\n"), Some((1, 5)));
+    assert_eq!(rt; place(b"06 > 00\n"), Some((1, 6)));
+    assert_eq!(rt; place(b"06 > 0"), Some((1, 6)));
+    assert_eq!(rt; place(b"06 > 01 \n"), Some((1, 8)));
+    assert_eq!(rt; place(b"06\n; no end"), Some((2, 9)));
+    assert_eq!(rt; place(b"; note\n05 > 01\n02 00 00 3E 11 22 33 44\n"), None);
 }
 
 #[test]

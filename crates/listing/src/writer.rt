@@ -5,6 +5,7 @@ ghost use Rattle.listing.specs.Values.{fitted, over};
 ghost use Rattle.listing.specs.Writing.{line_text, exchange_of, ReadsAlone, ReadsBack};
 
 use crate::fault::ListingFault;
+use crate::room::check_room;
 use crate::sheet::{Sheet, spaced_len};
 
 // A frame to be listed: its bytes, at least one, and how many bytes are wanted back. None is the number 0, and no sign
@@ -47,9 +48,7 @@ pub fn write_frame(frame: Frame, into: &mut [u8]) -> Result<usize, ListingFault>
     ensures alone { ReadsAlone (exchange_of frame.entry) }
 {
     let needed = frame.line_len();
-    if (into.len() as u128) < needed {
-        return Err(ListingFault::TextShort { needed });
-    }
+    check_room(needed, into)?;
     let mut sheet = Sheet::new(into);
     put_line(frame, &mut sheet);
     Ok(sheet.at)

@@ -15,11 +15,11 @@ returns-in_err-check_steps-clause-reads c = plan-reads c.args.data.now c.args.st
 pub returns-in_err-check_steps-clause-effect : goal.returns-in_err-check_steps-clause-effect
 returns-in_err-check_steps-clause-effect c = has_effect (cycles_of c.args.data.now c.args.steps.now)
 
-pub returns-then-into-needed-clause-reads : goal.returns-then-into-needed-clause-reads
-returns-then-into-needed-clause-reads c = plan-reads c.args.data.now c.args.steps.now (λ i. omega (arith, c.type_inv.data i))
+pub returns-in_err-check_room-clause-reads : goal.returns-in_err-check_room-clause-reads
+returns-in_err-check_room-clause-reads c = plan-reads c.args.data.now c.args.steps.now (λ i. omega (arith, c.type_inv.data i))
 
-pub returns-then-into-needed-clause-effect : goal.returns-then-into-needed-clause-effect
-returns-then-into-needed-clause-effect c = has_effect (cycles_of c.args.data.now c.args.steps.now)
+pub returns-in_err-check_room-clause-effect : goal.returns-in_err-check_room-clause-effect
+returns-in_err-check_room-clause-effect c = has_effect (cycles_of c.args.data.now c.args.steps.now)
 
 pub returns-clause-buffer : goal.returns-clause-buffer
 returns-clause-buffer c =

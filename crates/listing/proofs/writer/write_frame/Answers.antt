@@ -6,11 +6,11 @@ use Rattle.listing.proofs.Laying.{laid_start, over-fits}
 use Rattle.listing.proofs.Sheets.{sheet_text}
 use Rattle.listing.proofs.writer.write_frame.Goals as goal
 
-pub returns-then-into-needed-clause-reads : goal.returns-then-into-needed-clause-reads
-returns-then-into-needed-clause-reads c = let f = c.args.frame in λ h k. bytes-read f.code f.back f.rest.now (omega arith) k c.line_len-needed.ensures.bytes
+pub returns-in_err-check_room-clause-reads : goal.returns-in_err-check_room-clause-reads
+returns-in_err-check_room-clause-reads c = let f = c.args.frame in λ h k. bytes-read f.code f.back f.rest.now (omega arith) k c.line_len-needed.ensures.bytes
 
-pub returns-then-into-needed-clause-alone : goal.returns-then-into-needed-clause-alone
-returns-then-into-needed-clause-alone c = let f = c.args.frame in bytes-read f.code f.back f.rest.now (omega arith) (omega arith) c.line_len-needed.ensures.bytes
+pub returns-in_err-check_room-clause-alone : goal.returns-in_err-check_room-clause-alone
+returns-in_err-check_room-clause-alone c = let f = c.args.frame in bytes-read f.code f.back f.rest.now (omega arith) (omega arith) c.line_len-needed.ensures.bytes
 
 pub returns-clause-buffer : goal.returns-clause-buffer
 returns-clause-buffer c =

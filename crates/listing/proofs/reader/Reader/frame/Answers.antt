@@ -5,22 +5,22 @@ use Rattle.listing.proofs.Turns.{closing_end, closing_space, closing_no}
 use Rattle.listing.proofs.reader.Reader.frame.Goals as goal
 use Rattle.listing.proofs.reader.Reader.frame.Goals.{in_default-via-in-Some+in_default, in_default-via-in_default}
 
-pub returns-in-Some-eq10-clause-same : goal.returns-in-Some-eq10-clause-same
-returns-in-Some-eq10-clause-same c =
+pub returns-in-Some-eq10 : goal.returns-in-Some-eq10
+returns-in-Some-eq10 c =
     let t = c.args.self.now.rest.now in
     let p = c.in_ok-end.ensures in
     let b = c.in-Some-eq10.ensures.lookup.3.1 0 in
     sym (ap (refused c.args.self.now.line) (p.0 ∙ closing_end t c.in_ok-end.end (sym b ∙ c.in-Some-eq10.field-0-test)))
 
-pub returns-in-Some-eq32-clause-same : goal.returns-in-Some-eq32-clause-same
-returns-in-Some-eq32-clause-same c =
+pub returns-in-Some-eq32 : goal.returns-in-Some-eq32
+returns-in-Some-eq32 c =
     let t = c.args.self.now.rest.now in
     let p = c.in_ok-end.ensures in
     let b = c.in-Some-eq32.ensures.lookup.3.1 0 in
-    c.count.ensures.same ∙ sym (ap (refused c.args.self.now.line) (p.0 ∙ closing_space t c.in_ok-end.end (sym b ∙ c.in-Some-eq32.field-0-test)))
+    c.count.ensures ∙ sym (ap (refused c.args.self.now.line) (p.0 ∙ closing_space t c.in_ok-end.end (sym b ∙ c.in-Some-eq32.field-0-test)))
 
-pub returns-in_default-clause-same : goal.returns-in_default-clause-same
-returns-in_default-clause-same c =
+pub returns-in_default : goal.returns-in_default
+returns-in_default c =
     let l = c.args.self.now.line in
     let t = c.args.self.now.rest.now in
     let e = c.in_ok-end.end in
