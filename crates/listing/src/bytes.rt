@@ -4,7 +4,7 @@ ghost use Rattle.listing.specs.Scan.{pair_of, goes_on};
 
 use crate::hex::byte;
 
-// The byte that the pair spells.
+// The byte that the pair at the start spells, if there is one.
 pub(crate) fn pair(text: &[u8]) -> Option<u8>
     ensures value { result ≡ pair_of text.now }
     ensures within { OnSome result (2 ≤ length text.now) }
@@ -15,7 +15,7 @@ pub(crate) fn pair(text: &[u8]) -> Option<u8>
     }
 }
 
-// Another pair has to follow: there is a space, and no `>` after it.
+// If another pair has to follow, in the text after a pair: it begins with a space, and no `>` after that.
 pub(crate) fn goes_on(text: &[u8]) -> bool
     ensures value { result ≡ goes_on text.now }
     ensures within { result ≡ true → 1 ≤ length text.now }

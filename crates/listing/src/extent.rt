@@ -1,4 +1,4 @@
-// What a line holds, with its length, 0Ah left out.
+// What a line holds, with the length of the line, 0Ah left out.
 ghost use Rattle.std.specs.Prelude.{◌≡◌};
 ghost use Rattle.listing.specs.Scan.{size_of};
 

@@ -35,7 +35,8 @@ fn glyph(value: u8) -> u8
     }
 }
 
-// The pair of a byte.
+// The two digits of a byte, the high one first. `{:02X}` writes the same to a formatter, whose Result a lent buffer of
+// known room does not need.
 pub fn pair(byte: u8) -> [u8; 2]
     ensures { result ≡ pair_text byte }
 {

@@ -31,7 +31,8 @@ pub struct Placed<'a> {
     pub column: usize,
 }
 
-// The items of one line: a note, or a frame that a count may follow.
+// The items of one line: a note, or a frame that a count may follow. That a count follows only a frame is promised by the
+// reader (`LineText`): an enum would name a second time what each item names itself.
 #[derive(Clone, Copy)]
 pub struct Line<'a> {
     pub first: Placed<'a>,

@@ -22,7 +22,8 @@ fn count_pairs(pairs: &[u8]) -> Result<usize, ListingFault>
     }
 }
 
-// Writes the values of pairs, as many as the buffer holds.
+// Writes the values of pairs, as many as the buffer holds. Each pair but the last has a space after it, so the next one
+// begins three bytes on.
 fn copy_values(pairs: &[u8], into: &mut [u8])
     requires { length into.old ≡ length (good (values 0 pairs.now)) }
     ensures { into.new ≡ good (values 0 pairs.now) }

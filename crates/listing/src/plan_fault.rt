@@ -1,4 +1,4 @@
-// Why a plan is not listed. As `ListingFault` it is not `Reported`, for its `needed`.
+// Why a plan is not listed. It is not `Reported`, as `ListingFault` is not: `needed` can be past a `usize`.
 
 #[derive(Clone, Copy, PartialEq, Eq, Debug)]
 pub enum PlanListingFault {

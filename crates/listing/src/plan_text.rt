@@ -18,10 +18,11 @@ use port::instruction::{Instruction, Operation};
 // A page cycle: a code, three bytes of address and a page of data.
 const LONGEST_FRAME: usize = 68;
 
-// The line of write enable, and a pair with the byte after it.
-const ENABLE_LINE: usize = 3;
-
+// A pair, with the space or the 0Ah after it.
 const PAIR: usize = 3;
+
+// The line of write enable, which is one code.
+const ENABLE_LINE: usize = PAIR;
 
 // Writes the line of a frame's bytes, with nothing wanted back.
 fn put_bytes(sent: &[u8], sheet: &mut Sheet)

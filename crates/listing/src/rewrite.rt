@@ -12,7 +12,7 @@ use crate::reader::Reader;
 use crate::room::check_room;
 use crate::sheet::Sheet;
 
-// The length of a count with the ` > ` before it, if there is one, and of the 0Ah that ends its line.
+// The length of what follows the pairs of a frame: ` > ` and the count, if there is one, and 0Ah.
 fn count_len(count: Option<Placed>) -> usize
     ensures { result ≡ length (kept_count (count_of count.entry)) }
 {
@@ -43,7 +43,7 @@ fn kept_len(line: Line) -> usize
     }
 }
 
-// Writes a count, if there is one, and the 0Ah.
+// Writes what follows the pairs of a frame: ` > ` and the count, if there is one, and 0Ah.
 fn keep_count(count: Option<Placed>, sheet: &mut Sheet)
     requires { Room sheet.old (kept_count (count_of count)) }
     ensures { Wrote sheet.old sheet.new (kept_count (count_of count.entry)) }

@@ -5,7 +5,7 @@ ghost use Rattle.listing.specs.Writing.{pair_text, spaced_text, back_text};
 
 use crate::hex::pair;
 
-// The buffer, and the length of the text at its start. The buffer is lent by the caller, as there is no heap here: so no `Vec`.
+// The buffer, and the length of the text at its start. There is no heap here: a lent buffer stands for a `Vec`.
 #[derive(Drop)]
 pub(crate) struct Sheet<'a> {
     into: &'a mut [u8],
@@ -63,7 +63,7 @@ impl<'a> Sheet<'a> {
 }
 
 // The length of the pairs of bytes, each after a space. It can be longer than any buffer.
-// The elements of a slice are bytes, so what is written of them reads back.
+// Its callers are also told that the elements are below 256, by which a line that is written reads back.
 pub(crate) fn spaced_len(bytes: &[u8]) -> u128
     ensures exact { result ≡ length (spaced_text bytes.now) }
     ensures most { result < 2 ^ 66 }

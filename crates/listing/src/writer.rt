@@ -8,8 +8,8 @@ use crate::fault::ListingFault;
 use crate::room::check_room;
 use crate::sheet::{Sheet, spaced_len};
 
-// A frame to be listed: its bytes, at least one, and how many bytes are wanted back. None is the number 0, and no sign
-// for a missing number: an Option would say the same in two ways.
+// A frame to be listed: its bytes, at least one, and how many bytes are wanted back. For 0 the line has no count: an
+// Option would say none in two ways.
 #[derive(Clone, Copy)]
 pub struct Frame<'a> {
     pub code: u8,

@@ -1,1 +1,3 @@
 mod Showing
+mod Refusing
+mod Playing

@@ -4,9 +4,10 @@
 mod play;
 mod show;
 
-use anyhow::anyhow;
+use anyhow::Context;
 use listing::fault::ListingFault;
 use listing::reader::Reader;
+use memory::model::Model;
 use play::play;
 use port::bench::BenchChip;
 use std::alloc::{AllocError, Global};
@@ -18,13 +19,12 @@ const MOST: u64 = 65536;
 // The bench chip of this program: each program chooses its own.
 const CAPACITY: u8 = 0x0B;
 
-const BYTES: usize = 2048;
-
 const STATUS: u8 = 0x80;
 
 const BUSY: usize = 2;
 
-// Plays the frames up to the first malformed line, and says where that is.
+// Plays the frames up to the first malformed line, and says where that is: 12 is its number in docs/refusals.md, by hand
+// since a `ListingFault` is not `Reported`.
 fn replay(
     heap: Global,
     text: &[u8],
@@ -38,10 +38,11 @@ fn replay(
     loop {
         match reader.next_line() {
             Ok(Some(line)) => play(chip, line, &mut room, out)?,
-            Ok(None) | Err(ListingFault::TextShort { needed: _ }) => return Ok(()),
+            Ok(None) => return Ok(()),
             Err(ListingFault::Malformed { line, column }) => {
                 return writeln!(out, "E12 {line} {column}");
             }
+            Err(ListingFault::TextShort { needed: _ }) => unreachable!(),
         }
     }
 }
@@ -50,10 +51,11 @@ fn main(rt: HostRuntime) -> anyhow::Result<()> {
     let heap = rt.alloc();
     let mut text = Vec::new(heap);
     rt.stdin().take(MOST).read_to_end(&mut text)?;
-    let image = vec![in heap; 0xFF; BYTES]?;
-    let mut chip = BenchChip::new(CAPACITY, image, STATUS, BUSY).map_err(|_| anyhow!(
-        "the bench chip cannot be made"
-    ))?;
+    let model = Model::find(CAPACITY).context("no chip has this capacity byte")?;
+    let image = vec![in heap; 0xFF; model.geometry.size()]?;
+    let mut chip = BenchChip::new(CAPACITY, image, STATUS, BUSY)
+        .ok()
+        .context("the bench chip cannot be made")?;
     let mut out = String::new(heap);
     replay(heap, &text, &mut chip, &mut out)?;
     rt.stdout().write_all(out.as_bytes())?;

@@ -2,36 +2,27 @@
 ghost use Rattle.std.specs.Prelude.{◌≡◌, ◌+◌, ◌≤◌, ◌++◌, length, if◌then◌else◌, OnOk, nat_le, string_bytes};
 ghost use Rattle.port.specs.Bench.{chip_of};
 ghost use Rattle.port.specs.Machine.{after, answer, frame};
+ghost use Rattle.replay.specs.Playable.{Playable};
 ghost use Rattle.replay.specs.Shown.{line_of};
 
 use crate::show::Shown;
 use listing::item::{Item, Line, Placed};
 use listing::pairs::read_pairs;
+use memory::report::Reported;
 use port::bench::BenchChip;
 use std::alloc::AllocError;
 
 // The most bytes that a count can ask for.
-const MOST_BACK: usize = 255;
+const MOST_BACK: usize = u8::MAX as usize;
 
 // How many bytes a count asks for; none without one.
-fn wanted(count: Option<Placed>) -> usize
-    ensures { result ≤ 255 }
-{
-    let Some(
-        Placed {
-            item: Item::Count(digits),
-            line: _,
-            column: _,
-        },
-    ) = count
-    else {
-        return 0;
-    };
-    let mut value = [0u8; 1];
-    match read_pairs(digits, &mut value) {
-        Ok(_) => value[0] as usize,
-        Err(_) => 0,
+fn wanted(count: Option<Placed>) -> u8 {
+    let mut value = [0];
+    if let Some(count) = count {
+        // The reader takes one pair for a count, so this is not refused: if it were, the value would stay 0.
+        let _ = read_pairs(count.item.text(), &mut value);
     }
+    value[0]
 }
 
 // Sends a frame, and writes what comes back as a line: the bytes, `-` for none, or `E10` where the frame is too long.
@@ -50,28 +41,31 @@ fn play_frame(
             let shown = Shown(back);
             writeln!(out, "{shown}")
         }
-        Err(_) => writeln!(out, "E10"),
+        Err(fault) => {
+            let number = fault.report().number;
+            writeln!(out, "E{number}")
+        }
     }
 }
 
-// Plays the frame of a line. `room` is for the bytes of the frame. A note does nothing.
+// Plays the frame of a line that the reader gave. `room` is for the bytes of the frame. A note does nothing.
 pub(crate) fn play(
     chip: &mut BenchChip,
     line: Line,
     room: &mut [u8],
     out: &mut String,
-) -> Result<(), AllocError> {
+) -> Result<(), AllocError>
+    requires { Playable line (length room.old) }
+    ensures { length room.new ≡ length room.old }
+{
     let Item::Frame(pairs) = line.first.item else {
         return Ok(());
     };
     let Ok(n) = read_pairs(pairs, room) else {
-        return Ok(());
+        unreachable!()
     };
-    if n > room.len() {
-        return Ok(());
-    }
     let mut bytes = [0u8; MOST_BACK];
-    let count = wanted(line.count);
+    let count = wanted(line.count) as usize;
     // the buffers are lent, so that a line allocates nothing
     play_frame(chip, &room[0..n], &mut bytes[0..count], out)
 }

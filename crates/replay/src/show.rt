@@ -5,7 +5,8 @@ ghost use Rattle.replay.specs.Shown.{shown};
 use hex_text::spaced::Spaced;
 use std::fmt;
 
-// Shows its bytes as pairs with single spaces, or `-` for none.
+// Shows its bytes as pairs with single spaces, or `-` for none. `Spaced` has a space before each, so the first stands
+// by itself.
 #[derive(Clone, Copy)]
 pub(crate) struct Shown<'a>(pub(crate) &'a [u8]);
 
