@@ -13,18 +13,28 @@ use crate::model::{PAGE_BYTES, page_start};
 use crate::page::{erase, write};
 
 impl Image {
-    // The caller's bytes as an image; they are handed back where they cannot be one.
+    // The caller's bytes as an image; they are handed back where they cannot be one. The counts come as two numbers, since the
+    // refusal tells which of all that was passed is at fault.
     pub fn new(sectors: usize, pages: usize, bytes: Vec<u8>) -> Result<Image, Unmade<ImageFault>>
         ensures { MatchResult result
             (λ i. (unmade sectors pages (vec_len bytes) ≡ None) × (i.geometry.sectors ≡ sectors) × (i.geometry.pages ≡ pages) × (i.bytes ≡ bytes))
             (λ e. (unmade sectors pages (vec_len bytes) ≡ Some e.fault) × (e.bytes ≡ bytes)) }
     {
-        let Some(geometry) = Geometry::new(sectors, pages) else {
-            return Err(Unmade {
+        match Geometry::new(sectors, pages) {
+            Some(geometry) => Image::divided(geometry, bytes),
+            None => Err(Unmade {
                 fault: ImageFault::Geometry,
                 bytes,
-            });
-        };
+            }),
+        }
+    }
+
+    // The same of sectors and pages that a memory may have.
+    pub fn divided(geometry: Geometry, bytes: Vec<u8>) -> Result<Image, Unmade<ImageFault>>
+        ensures { MatchResult result
+            (λ i. (unmade geometry.sectors geometry.pages (vec_len bytes) ≡ None) × (i.geometry ≡ geometry) × (i.bytes ≡ bytes))
+            (λ e. (unmade geometry.sectors geometry.pages (vec_len bytes) ≡ Some e.fault) × (e.bytes ≡ bytes)) }
+    {
         if bytes.len() != geometry.size() {
             return Err(Unmade {
                 fault: ImageFault::Length,

@@ -1,4 +1,4 @@
-use Rattle.std.proofs.Common.{◌≡◌, ◌+◌, ◌-◌, ◌%◌, length, get_or, sym, refl, ◌∙◌, arith, length-set, mod-lt, mod-eq_of_lt}
+use Rattle.std.proofs.Common.{◌≡◌, ◌+◌, ◌-◌, ◌%◌, length, get_or, sym, refl, arith, length-set, mod-lt, mod-eq_of_lt}
 use Rattle.std.proofs.lemmas.List.{take_all, append-nil}
 use Rattle.memory.proofs.Loops.{roll_more, rolled_none}
 use Rattle.memory.proofs.Rolled.{rolled-mod, rolled-straight}
