@@ -42,6 +42,14 @@ effect m bulk_erase image = replicate (length image) 255
 abbrev pub writable : Shape → (ℕ → Bool) → ℕ → Bool
 writable m prot address = nat_lt address (size m) && not (prot (sector_at m address))
 
+-- nothing that a cycle of this kind alters is protected: the sector of its address, and for a bulk erase all
+abbrev pub permits : Shape → (ℕ → Bool) → Kind → ℕ → Bool
+permits m prot Program address = not (prot (sector_at m address))
+permits m prot Alter address = not (prot (sector_at m address))
+permits m prot Preset address = not (prot (sector_at m address))
+permits m prot SectorErase address = not (prot (sector_at m address))
+permits m prot BulkErase address = free prot m.sectors
+
 -- one byte at least, one page at most
 abbrev pub fits_page : Shape → List ℕ → Bool
 fits_page m sent = nat_lt 0 (length sent) && nat_le (length sent) m.bytes

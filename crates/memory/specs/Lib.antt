@@ -2,6 +2,7 @@ pub mod Row
 pub mod Reports
 pub mod Shape
 pub mod Models
+pub mod Kinds
 pub mod Protection
 pub mod Page
 pub mod Cycle

@@ -1,7 +1,9 @@
 // Runs of bytes.
 ghost use Rattle.std.specs.Prelude.{◌≡◌, ℕ, ◌<◌, length, replicate, slice_index};
 ghost use Rattle.memory.specs.Page.{blank};
+ghost use Rattle.memory.specs.Image.{rolled};
 
+// The slice's own `fill`, with what callers need of its bytes.
 pub fn fill(bytes: &mut [u8], value: u8)
     ensures after { bytes.new ≡ replicate (length bytes.old) value }
     ensures bytes { (i : ℕ) → slice_index bytes.new i < 256 }
@@ -13,4 +15,23 @@ pub fn is_blank(bytes: &[u8]) -> bool
     ensures { result ≡ blank bytes.now }
 {
     bytes.iter().all(|x| *x == 0xFF)
+}
+
+// Fills a buffer from a place on, which counts modulo the length: after the last byte comes the first. From no bytes nothing
+// is filled.
+pub fn roll(bytes: &[u8], from: usize, into: &mut [u8])
+    ensures rolled { 0 < length bytes.now → into.new ≡ rolled bytes.now from (length into.old) }
+    ensures unfilled { length bytes.now ≡ 0 → into.new ≡ into.old }
+{
+    if bytes.is_empty() {
+        return;
+    }
+    let at = from % bytes.len();
+    if into.len() <= bytes.len() - at {
+        into.copy_from_slice(&bytes[at..at + into.len()]);
+        return;
+    }
+    for (i, byte) in into.iter_mut().enumerate() {
+        *byte = bytes[(at + i) % bytes.len()];
+    }
 }

@@ -5,27 +5,36 @@ ghost use Rattle.memory.specs.Page.{blank, page};
 ghost use Rattle.memory.specs.Cycle.{cycle_of};
 ghost use Rattle.memory.specs.Image.{bytes_of, carried, rolled, shape_of, unmade};
 
-use crate::bytes::is_blank;
-use crate::cycle::carry_out;
+use crate::bytes::{fill, is_blank, roll};
 use crate::geometry::Geometry;
 use crate::image::{Image, ImageFault, Unmade};
 use crate::kind::Kind;
-use crate::model::PAGE_BYTES;
-use crate::page::roll;
+use crate::model::{PAGE_BYTES, page_start};
+use crate::page::{erase, write};
 
 impl Image {
-    // The caller's bytes as an image; they are handed back where they cannot be one.
+    // The caller's bytes as an image; they are handed back where they cannot be one. The counts come as two numbers, since the
+    // refusal tells which of all that was passed is at fault.
     pub fn new(sectors: usize, pages: usize, bytes: Vec<u8>) -> Result<Image, Unmade<ImageFault>>
         ensures { MatchResult result
             (λ i. (unmade sectors pages (vec_len bytes) ≡ None) × (i.geometry.sectors ≡ sectors) × (i.geometry.pages ≡ pages) × (i.bytes ≡ bytes))
             (λ e. (unmade sectors pages (vec_len bytes) ≡ Some e.fault) × (e.bytes ≡ bytes)) }
     {
-        let Some(geometry) = Geometry::new(sectors, pages) else {
-            return Err(Unmade {
+        match Geometry::new(sectors, pages) {
+            Some(geometry) => Image::divided(geometry, bytes),
+            None => Err(Unmade {
                 fault: ImageFault::Geometry,
                 bytes,
-            });
-        };
+            }),
+        }
+    }
+
+    // The same of sectors and pages that a memory may have.
+    pub fn divided(geometry: Geometry, bytes: Vec<u8>) -> Result<Image, Unmade<ImageFault>>
+        ensures { MatchResult result
+            (λ i. (unmade geometry.sectors geometry.pages (vec_len bytes) ≡ None) × (i.geometry ≡ geometry) × (i.bytes ≡ bytes))
+            (λ e. (unmade geometry.sectors geometry.pages (vec_len bytes) ≡ Some e.fault) × (e.bytes ≡ bytes)) }
+    {
         if bytes.len() != geometry.size() {
             return Err(Unmade {
                 fault: ImageFault::Length,
@@ -38,7 +47,8 @@ impl Image {
     pub fn into_bytes(self) -> Vec<u8>
         ensures { result ≡ self.bytes }
     {
-        self.bytes
+        let Image { geometry: _, bytes } = self;
+        bytes
     }
 
     pub fn len(&self) -> usize
@@ -61,7 +71,7 @@ impl Image {
         if address >= self.bytes.len() {
             return true;
         }
-        let start = address / PAGE_BYTES * PAGE_BYTES;
+        let start = page_start(address);
         let bytes = self.bytes.as_slice();
         is_blank(&bytes[start..start + PAGE_BYTES])
     }
@@ -71,6 +81,24 @@ impl Image {
         ensures shape { shape_of self.new ≡ shape_of self.old }
         ensures bytes { bytes_of self.new ≡ carried (shape_of self.old) (cycle_of kind address sent.now) (bytes_of self.old) }
     {
-        carry_out(&mut self.bytes, self.geometry, kind, address, sent);
+        match kind {
+            Kind::BulkErase => fill(&mut self.bytes, 0xFF),
+            _ if address >= self.bytes.len() => {}
+            Kind::SectorErase => {
+                let sector = self.geometry.sector_of(address);
+                let pages = self.geometry.pages;
+                erase(
+                    &mut self.bytes,
+                    sector * pages * PAGE_BYTES,
+                    pages * PAGE_BYTES,
+                );
+            }
+            Kind::Program | Kind::Alter | Kind::Preset => write(
+                kind,
+                &mut self.bytes,
+                address,
+                sent,
+            ),
+        }
     }
 }

@@ -4,11 +4,11 @@
 
 pub mod bytes;
 mod carry;
-mod cycle;
 pub mod geometry;
 pub mod image;
 pub mod kind;
 pub mod model;
 mod page;
 pub mod protection;
+pub mod range;
 pub mod report;

@@ -1,10 +1,17 @@
 // The chips that are known.
-ghost use Rattle.std.specs.Prelude.{◌≡◌};
+ghost use Rattle.std.specs.Prelude.{◌≡◌, ◌*◌, ◌/◌};
 
 use crate::geometry::Geometry;
 
 // A page is 64 bytes on every chip.
 pub const PAGE_BYTES: usize = 64;
+
+// Where the page of an address begins.
+pub fn page_start(address: usize) -> usize
+    ensures { result ≡ address / 64 * 64 }
+{
+    address / PAGE_BYTES * PAGE_BYTES
+}
 
 // A chip's geometry, by the last byte of its identification.
 #[derive(Clone, Copy, PartialEq, Eq, Debug)]

@@ -1,26 +1,14 @@
 // What a page cycle does to one page, and an erase to a run of bytes.
 ghost use Rattle.std.specs.Prelude.{◌≡◌, ℕ, ◌+◌, ◌*◌, ◌/◌, ◌%◌, ◌<◌, ◌≤◌, List, [], length, replicate, slice_index};
 ghost use Rattle.memory.specs.Page.{cover, merged, put, written};
-ghost use Rattle.memory.specs.Image.{rule, rolled};
+ghost use Rattle.memory.specs.Image.{rule};
 
 use crate::bytes::fill;
 use crate::kind::Kind;
-use crate::model::PAGE_BYTES;
+use crate::model::{PAGE_BYTES, page_start};
 
 // What a place is sent, if anything.
 type Cover = [Option<u8>; PAGE_BYTES];
-
-// Reads from an address on, rolling over after the last byte.
-pub(crate) fn roll(image: &[u8], address: usize, into: &mut [u8])
-    requires { 0 < length image.now }
-    ensures { into.new ≡ rolled image.now address (length into.old) }
-{
-    let mut at = address % image.len();
-    for byte in into.iter_mut() {
-        *byte = image[at];
-        at = if at + 1 == image.len() { 0 } else { at + 1 };
-    }
-}
 
 // What a page cycle leaves of the old byte and the one sent.
 fn left(kind: Kind, old: u8, sent: u8) -> u8
@@ -48,6 +36,7 @@ fn merge(kind: Kind, bytes: &mut [u8], sent: &Cover)
     requires { length bytes.old ≡ 64 }
     ensures { bytes.new ≡ merged (rule kind) bytes.old sent.now }
 {
+    // no `zip` with what is sent: tried, and its loop has no name for the bytes written so far
     for (i, byte) in bytes.iter_mut().enumerate() {
         if let Some(sent) = sent[i] {
             *byte = left(kind, *byte, sent);
@@ -61,7 +50,7 @@ pub(crate) fn write(kind: Kind, image: &mut [u8], address: usize, sent: &[u8])
     ensures after { image.new ≡ written (rule kind) 64 address sent.now image.old }
     ensures bytes { (i : ℕ) → slice_index image.new i < 256 }
 {
-    let start = address / PAGE_BYTES * PAGE_BYTES;
+    let start = page_start(address);
     let cover = lay(address % PAGE_BYTES, sent);
     merge(kind, &mut image[start..start + PAGE_BYTES], &cover);
 }

@@ -2,6 +2,9 @@
 ghost use Rattle.std.specs.Prelude.{◌≡◌, ℕ, ◌-◌, ◌%◌, ◌<◌, true, false, ◌==◌, bit_and, MatchOption};
 ghost use Rattle.memory.specs.Protection.{at_rest, free, protects};
 
+use crate::geometry::Geometry;
+use crate::kind::Kind;
+
 const TB: u8 = 0x20;
 
 const BP3: u8 = 0x40;
@@ -54,6 +57,24 @@ impl Status {
     }
 }
 
+impl Status {
+    ghost use Rattle.memory.specs.declared.kind.Kind.TheVariants.{BulkErase};
+    ghost use Rattle.memory.specs.Shape.{shaped};
+    ghost use Rattle.memory.specs.Cycle.{permits};
+
+    // Whether nothing that a cycle of this kind alters is protected: the sector of its address, and for a bulk erase all.
+    pub fn permits(self, geometry: Geometry, kind: Kind, address: usize) -> bool
+        ensures value { result ≡ permits (shaped geometry.sectors geometry.pages) (protects self.bits geometry.sectors) kind address }
+        ensures bits { kind ≡ BulkErase → result ≡ (bit_and self.bits 0x5C == 0) }
+    {
+        if !kind.has_address() {
+            return self.protects_none();
+        }
+        !self.protects(geometry.sectors, geometry.sector_of(address))
+    }
+}
+
+// Of any byte that a status register may show, also one that is no `Status`.
 pub fn is_protected(status: u8, sectors: usize, sector: usize) -> bool
     ensures { result ≡ protects status sectors sector }
 {

@@ -40,7 +40,7 @@ fn lay_out(row: Instruction, address: usize, data: &[u8], into: &mut [u8])
     ensures { into.new ≡ headed row address «data».now ++ drop (1 + row.address + row.dummy + length «data».now) into.old }
 {
     let dummy = 1 + row.address as usize;
-    let head = dummy + row.dummy as usize;
+    let head = row.head();
     into[0] = row.code;
     write_address(address, &mut into[1..dummy]);
     fill(&mut into[dummy..head], 0);
@@ -66,7 +66,7 @@ pub fn build(
     ensures understood { Understood }
 {
     let row = Instruction::of(operation);
-    let head = 1 + row.address as usize + row.dummy as usize;
+    let head = row.head();
     let n = carried(row.carries, data);
     check_length(into.len(), head, n)?;
     lay_out(row, address, &data[0..n], into);

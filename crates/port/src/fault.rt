@@ -5,6 +5,7 @@ ghost use Rattle.port.specs.Bench.{imaging};
 ghost use Rattle.port.specs.Rows.{making_row, row};
 
 use memory::image::ImageFault;
+use memory::range::is_inside;
 use memory::report::{Layer, Report, Reported};
 
 #[derive(Clone, Copy, PartialEq, Eq, Debug)]
@@ -17,7 +18,7 @@ pub enum PortFault {
 pub(crate) fn check_length(longest: usize, sent: usize, wanted: usize) -> Result<(), PortFault>
     ensures { result ≡ (if nat_le (sent + wanted) longest then Ok tt else Err (TooLong longest)) }
 {
-    if sent > longest || wanted > longest - sent {
+    if !is_inside(longest, sent, wanted) {
         return Err(PortFault::TooLong(longest));
     }
     Ok(())

@@ -1,10 +1,12 @@
 // The chip's instructions, as one table that the chip machine and the frame builder read.
-ghost use Rattle.std.specs.Prelude.{◌≡◌};
+ghost use Rattle.std.specs.Prelude.{◌≡◌, ◌+◌};
 ghost use Rattle.port.specs.Instructions.{allows, fits, lookup, table};
 ghost use Rattle.port.specs.Operations.{operation_of};
 
 use memory::kind::Kind;
 
+// The five kinds of cycle stand among the others, and not as one case with a `Kind`: the place of an operation in the table is its
+// number.
 #[derive(Clone, Copy, PartialEq, Eq, Debug)]
 pub enum Operation {
     WriteEnable,
@@ -171,11 +173,19 @@ impl Instruction {
             .copied()
     }
 
+    // How many bytes stand before the data: the code, the address and the dummy bytes.
+    pub fn head(&self) -> usize
+        ensures { result ≡ 1 + self.now.address + self.now.dummy }
+    {
+        1 + self.address as usize + self.dummy as usize
+    }
+
     // If a frame has the instruction's shape: so many bytes after its code, and so many wanted back.
     pub fn fits(&self, after: usize, wanted: usize) -> bool
         ensures { result ≡ fits self.now after wanted }
     {
-        let head = self.address as usize + self.dummy as usize;
+        // the code is none of the bytes after it
+        let head = self.head() - 1;
         let is_long = if self.carries {
             after > head
         } else {

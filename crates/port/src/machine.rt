@@ -1,15 +1,14 @@
 // The bench chip's making, its answers and its acts.
-ghost use Rattle.std.specs.Prelude.{◌≡◌, true, length, Some, None, vec_len, MatchResult};
+ghost use Rattle.std.specs.Prelude.{◌≡◌, ℕ, true, List, length, Some, None, vec_len, MatchResult};
 ghost use Rattle.memory.specs.Cycle.{cycle_of};
 ghost use Rattle.memory.specs.Image.{bytes_of};
-ghost use Rattle.port.specs.Machine.{Within, act, identify, opens, reply, said, shown, takes};
+ghost use Rattle.port.specs.Machine.{Within, act, identify, reply, said, shown, takes};
 ghost use Rattle.port.specs.Bench.{chip_of, fresh, unmade};
 
 use crate::bench::BenchChip;
 use crate::fault::Making;
 use crate::order::Order;
 use memory::bytes::fill;
-use memory::geometry::Geometry;
 use memory::image::{Image, Unmade};
 use memory::kind::Kind;
 use memory::model::Model;
@@ -39,8 +38,7 @@ impl BenchChip {
                 bytes: image,
             });
         };
-        let Geometry { sectors, pages } = model.geometry;
-        let image = Image::new(sectors, pages, image).map_err(|unmade| unmade.convert())?;
+        let image = Image::divided(model.geometry, image).map_err(|unmade| unmade.convert())?;
         let Some(status) = Status::new(status) else {
             return Err(Unmade {
                 fault: Making::Status,
@@ -110,24 +108,13 @@ impl BenchChip {
         }
     }
 
-    // If the latch is set and the sector of the address is not protected.
-    fn is_open(&self, address: usize) -> bool
-        ensures { result ≡ opens (chip_of self.now) address }
+    // If the chip carries out the cycle, whatever data it is sent.
+    fn takes(&self, kind: Kind, address: usize) -> bool
+        ensures { (sent : List ℕ) → result ≡ takes (chip_of self.now) (cycle_of kind address sent) }
     {
-        let geometry = self.image.geometry;
-        let sector = geometry.sector_of(address);
-        self.latch && !self.status.protects(geometry.sectors, sector)
-    }
-
-    // If the chip carries out the cycle.
-    fn takes(&self, kind: Kind, address: usize, sent: &[u8]) -> bool
-        ensures { result ≡ takes (chip_of self.now) (cycle_of kind address sent.now) }
-    {
-        match kind {
-            Kind::Program | Kind::Alter | Kind::SectorErase => self.is_open(address),
-            Kind::Preset => self.is_open(address) && self.image.is_page_blank(address),
-            Kind::BulkErase => self.latch && self.status.protects_none(),
-        }
+        self.latch
+            && self.status.permits(self.image.geometry, kind, address)
+            && (kind != Kind::Preset || self.image.is_page_blank(address))
     }
 
     // What the order does to the chip.
@@ -141,7 +128,7 @@ impl BenchChip {
             Order::Disable => self.latch = false,
             Order::Status => self.busy = self.busy.saturating_sub(1),
             Order::Cycle(kind, address, sent) => {
-                if self.takes(kind, address, sent) {
+                if self.takes(kind, address) {
                     self.image.carry(kind, address, sent);
                     self.latch = false;
                     self.busy = self.number;

@@ -1,7 +1,7 @@
 // What a frame asks of the chip.
 use memory::kind::Kind;
 
-#[derive(Clone, Copy)]
+#[derive(Clone, Copy, PartialEq, Eq, Debug)]
 pub enum Order<'a> {
     Enable,
     Disable,
