@@ -4,8 +4,8 @@ ghost use Rattle.listing.specs.PlanFault.{addressed, filled, lies, unlisted, fir
 
 use crate::plan_fault::PlanListingFault;
 use least::step::Step;
-use memory::kind::Kind;
 use memory::model::PAGE_BYTES;
+use memory::range::is_inside;
 
 // The last address that three bytes say.
 const LAST_ADDRESS: usize = 0xFFFFFF;
@@ -14,32 +14,21 @@ const LAST_ADDRESS: usize = 0xFFFFFF;
 fn is_addressed(step: &Step) -> bool
     ensures { result ≡ addressed step.now.kind step.now.address }
 {
-    match step.kind {
-        Kind::BulkErase => true,
-        Kind::Program | Kind::Alter | Kind::Preset | Kind::SectorErase => {
-            step.address <= LAST_ADDRESS
-        }
-    }
+    !step.kind.has_address() || step.address <= LAST_ADDRESS
 }
 
 // If the step's data are a page at most, one byte at least, and lie in the buffer.
-fn has_data(step: &Step, data: &[u8]) -> bool
+fn has_page(step: &Step, data: &[u8]) -> bool
     ensures { result ≡ lies step.now.place step.now.length (length «data».now) }
 {
-    step.length > 0
-        && step.length <= PAGE_BYTES
-        && step.length <= data.len()
-        && step.place <= data.len() - step.length
+    (1..=PAGE_BYTES).contains(&step.length) && is_inside(data.len(), step.place, step.length)
 }
 
 // If the step has the data that its cycle needs.
 fn is_filled(step: &Step, data: &[u8]) -> bool
     ensures { result ≡ filled step.now.kind (lies step.now.place step.now.length (length «data».now)) }
 {
-    match step.kind {
-        Kind::Program | Kind::Alter | Kind::Preset => has_data(step, data),
-        Kind::SectorErase | Kind::BulkErase => true,
-    }
+    !step.kind.has_data() || has_page(step, data)
 }
 
 // Refuses a step that is not listed.

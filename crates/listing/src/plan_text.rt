@@ -11,7 +11,6 @@ ghost use Rattle.listing.specs.Writing.{line_text};
 use crate::sheet::Sheet;
 use crate::writer::{Frame, put_line};
 use least::step::Step;
-use memory::kind::Kind;
 use port::build::build;
 use port::instruction::{Instruction, Operation};
 
@@ -69,11 +68,10 @@ impl<'a> Listed<'a> {
         ensures { result.now ≡ sent_by (step_cycle self.now.«data».now self.now.step.now) }
     {
         let step = self.step;
-        match step.kind {
-            Kind::Program | Kind::Alter | Kind::Preset => {
-                &self.data[step.place..step.place + step.length]
-            }
-            Kind::SectorErase | Kind::BulkErase => &[],
+        if step.kind.has_data() {
+            &self.data[step.place..step.place + step.length]
+        } else {
+            &[]
         }
     }
 
@@ -83,8 +81,7 @@ impl<'a> Listed<'a> {
         ensures most { result ≤ 207 }
     {
         let row = Instruction::of(Operation::from(self.step.kind));
-        let head = 1 + row.address as usize + row.dummy as usize;
-        ENABLE_LINE + PAIR * (head + self.sent().len())
+        ENABLE_LINE + PAIR * (row.head() + self.sent().len())
     }
 
     // Writes its two lines.
