@@ -44,6 +44,10 @@ pub record Readable (m : Meaning) (q : ℕ) : Type 0 where
   pub idle : idle m ≡ true
   pub here : q < m.shape.sectors * m.shape.pages
 
+-- a memory that has n pages from page q on
+abbrev pub PagesIn : Meaning → ℕ → ℕ → Type 0
+PagesIn m q n = q + n ≤ m.shape.sectors * m.shape.pages
+
 -- the write has bytes for page q, of pages of 64 bytes
 abbrev pub touched : ℕ → List ℕ → ℕ → Bool
 touched address bytes q = nat_lt (q * 64) (address + length bytes) && nat_lt address (q * 64 + 64)

@@ -1,5 +1,5 @@
 -- What is found out of a write before it is planned.
-use Rattle.std.specs.Prelude.{ℕ, ◌+◌, Bool, cond, not, ◌&&◌, List, Some, None, Option}
+use Rattle.std.specs.Prelude.{ℕ, ◌+◌, ◌*◌, ◌≤◌, Bool, cond, not, ◌&&◌, List, Some, None, Option}
 use Rattle.memory.specs.Protection.{free}
 use Rattle.part.specs.Meaning.{Meaning, protected_at}
 use Rattle.least.specs.Cost.{sum_to}
@@ -7,6 +7,10 @@ use Rattle.least.specs.Fewest.{fewest}
 use Rattle.least.specs.Plan.{keep_page, erased_page}
 use Rattle.least.specs.Sectors.{over_sector, erase_cost, sectors_cost, bulk_cost}
 use Rattle.planner.specs.Looking.{touched, wanted}
+
+-- no more than n pages cost
+abbrev pub UpTo : ℕ → ℕ × ℕ → Type 0
+UpTo n cost = (cost.0 ≤ n) × (cost.1 ≤ 64 * n)
 
 module _ (m : Meaning) (address : ℕ) (bytes : List ℕ) where
   -- page q as it stands, and once erased

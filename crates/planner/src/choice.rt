@@ -6,7 +6,7 @@ ghost use Rattle.least.specs.Fewest.{fewest};
 ghost use Rattle.least.specs.Sectors.{bulk_cost, over_sector, sector_cost};
 ghost use Rattle.planner.specs.Asking.{for_bulk, whole};
 ghost use Rattle.planner.specs.Looking.{Fitting, LookedBy};
-ghost use Rattle.planner.specs.Survey.{below, by_sectors, erases, kept, on_all, preset, preset_on};
+ghost use Rattle.planner.specs.Survey.{UpTo, below, by_sectors, erases, kept, on_all, preset, preset_on};
 ghost use Rattle.planner.specs.Choice.{Chosen};
 
 use crate::chosen::{Choice, Erasure};
@@ -27,8 +27,7 @@ struct Sector {
 fn sector_cost<P: Part>(part: &mut P, write: Write<'_>, k: usize) -> Sector
     requires { Fitting (P.Part.meaning part.old) write.address write.bytes.now × (k < (P.Part.meaning part.old).shape.sectors) }
     ensures looked { LookedBy P.Part (64 * (P.Part.meaning part.old).shape.pages) part.old part.new }
-    ensures bound { (result.costs.cost.0 ≤ 2049) × (result.costs.cost.1 ≤ 131072) }
-    ensures presets { (result.costs.presets.0 ≤ 2048) × (result.costs.presets.1 ≤ 131072) }
+    ensures bound { UpTo 4097 result.costs.cost × UpTo 2048 result.costs.presets }
     ensures first { P.Part.intact part.old → result.erased ≡ erases (P.Part.meaning part.old) write.entry.address write.entry.bytes.now k }
     ensures value { P.Part.intact part.old → result.costs.cost ≡ sector_cost fewest (P.Part.meaning part.old).shape (kept (P.Part.meaning part.old) write.entry.address write.entry.bytes.now) (preset (P.Part.meaning part.old) write.entry.address write.entry.bytes.now) k }
     ensures touched { P.Part.intact part.old → result.costs.presets ≡ over_sector fewest (P.Part.meaning part.old).shape (preset_on (P.Part.meaning part.old) write.entry.address write.entry.bytes.now) k }
@@ -55,7 +54,7 @@ fn sector_cost<P: Part>(part: &mut P, write: Write<'_>, k: usize) -> Sector
 fn sector_costs<P: Part>(part: &mut P, write: Write<'_>, erased: &mut [bool]) -> Costs
     requires { Fitting (P.Part.meaning part.old) write.address write.bytes.now × (length erased.old ≡ (P.Part.meaning part.old).shape.sectors) }
     ensures looked { LookedBy P.Part (whole (P.Part.meaning part.old)) part.old part.new }
-    ensures bound { (result.presets.0 ≤ 262144) × (result.presets.1 ≤ 16777216) }
+    ensures bound { UpTo 262144 result.presets }
     ensures value { P.Part.intact part.old → result.cost ≡ by_sectors (P.Part.meaning part.old) write.entry.address write.entry.bytes.now }
     ensures touched { P.Part.intact part.old → result.presets ≡ on_all (P.Part.meaning part.old) write.entry.address write.entry.bytes.now }
     ensures marks { P.Part.intact part.old → (k : ℕ) → k < (P.Part.meaning part.old).shape.sectors → slice_index_or erased.new k false ≡ erases (P.Part.meaning part.old) write.entry.address write.entry.bytes.now k }
@@ -78,7 +77,7 @@ fn is_free<P: Part>(part: &P) -> bool
 // A bulk erase and then presets, if it is accepted and below what the sectors cost, from the presets of the touched pages.
 fn bulk_cost<P: Part>(part: &mut P, write: Write<'_>, presets: Cost, limit: Cost) -> Option<Cost>
     requires fitting { Fitting (P.Part.meaning part.old) write.address write.bytes.now }
-    requires presets_bound { (presets.0 ≤ 262144) × (presets.1 ≤ 16777216) }
+    requires presets_bound { UpTo 262144 presets }
     ensures looked { LookedBy P.Part (for_bulk (P.Part.meaning part.old)) part.old part.new }
     ensures value { P.Part.intact part.old → presets ≡ on_all (P.Part.meaning part.old) write.entry.address write.entry.bytes.now → result ≡ (if free (protected_at (P.Part.meaning part.old)) (P.Part.meaning part.old).shape.sectors then below limit (bulk_cost fewest (P.Part.meaning part.old).shape (preset (P.Part.meaning part.old) write.entry.address write.entry.bytes.now)) else None) }
 {

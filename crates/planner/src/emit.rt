@@ -3,7 +3,7 @@ ghost use Rattle.std.specs.Prelude.{◌≡◌, ℕ, ◌+◌, ◌*◌, ◌<◌, �
 ghost use Rattle.memory.specs.declared.kind.Kind.TheVariants.{Program, Alter};
 ghost use Rattle.least.specs.Plan.{lowers};
 ghost use Rattle.planner.specs.Asking.{whole};
-ghost use Rattle.planner.specs.Looking.{Fitting, LookedBy, Readable};
+ghost use Rattle.planner.specs.Looking.{Fitting, LookedBy, PagesIn, Readable};
 ghost use Rattle.planner.specs.Sending.{Laid, Sent};
 ghost use Rattle.planner.specs.Lists.{bulk_list, page_list, pages_list, sector_list, sectors_list};
 ghost use Rattle.planner.specs.Choice.{Chosen};
@@ -12,7 +12,7 @@ ghost use Rattle.planner.specs.Call.{plan_list};
 use crate::chosen::{Choice, Erasure};
 use crate::look::{both_pages, touches, wanted_page};
 use crate::overlay::Write;
-use crate::page::{blank, only_lowers};
+use crate::page::{Page, blank, only_lowers};
 use crate::sheet::Sheet;
 use least::step::Step;
 use memory::kind::Kind;
@@ -27,8 +27,7 @@ pub enum Pages {
 }
 
 // How a page is written that was not erased.
-fn kept_kind(old: &[u8], new: &[u8]) -> Kind
-    requires { length old.now ≡ length new.now }
+fn kept_kind(old: &Page, new: &Page) -> Kind
     ensures { result ≡ (if lowers old.now new.now then Program else Alter) }
 {
     if only_lowers(old, new) {
@@ -73,7 +72,7 @@ fn put_pages<P: Part>(
     sheet: &mut Sheet<'_>,
 )
     requires fitting { Fitting (P.Part.meaning part.old) write.address write.bytes.now }
-    requires count_bound { first + count ≤ (P.Part.meaning part.old).shape.sectors * (P.Part.meaning part.old).shape.pages }
+    requires count_bound { PagesIn (P.Part.meaning part.old) first count }
     ensures looked { LookedBy P.Part (64 * count) part.old part.new }
     ensures sent { Sent (P.Part.intact part.old) (pages_list (P.Part.meaning part.old) write.entry.address write.entry.bytes.now pages first count) sheet.old sheet.new }
 {

@@ -5,10 +5,9 @@ ghost use Rattle.part.specs.Meaning.{protected_at};
 ghost use Rattle.planner.specs.Looking.{Fitting, LookedBy, Readable, touched, wanted};
 
 use crate::overlay::{Write, overlay};
+use crate::page::Page;
 use memory::model::PAGE_BYTES;
 use part::part::Part;
-
-pub type Page = [u8; PAGE_BYTES];
 
 // The bytes of page q as they stand.
 pub(crate) fn read_page<P: Part>(part: &mut P, q: usize) -> Page

@@ -29,9 +29,7 @@ pub fn run<P: Part>(
         return Err(RunFault::StillBusy(limit));
     }
     for (i, step) in steps.iter().enumerate() {
-        if let Err(fault) = send(part, step, data) {
-            return Err(RunFault::Refused { step: i, fault });
-        }
+        send(part, step, data).map_err(|fault| RunFault::Refused { step: i, fault })?;
         if !wait(part, limit) {
             return Err(RunFault::Abandoned(i + 1));
         }

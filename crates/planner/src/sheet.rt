@@ -6,6 +6,7 @@ ghost use Rattle.least.specs.Plan.{bytes_from, sending};
 ghost use Rattle.least.specs.Steps.{address_of};
 ghost use Rattle.least.specs.Window.{window};
 
+use crate::page::Page;
 use least::step::Step;
 use least::window::{Run, window};
 use memory::kind::Kind;
@@ -46,8 +47,8 @@ impl<'a> Sheet<'a> {
     }
 
     // The cycle that sends what changes of page q, if anything does.
-    pub(crate) fn put_page(&mut self, kind: Kind, q: usize, old: &[u8], new: &[u8])
-        requires { (of_page kind ≡ true) × (length old.now ≡ 64) × (length new.now ≡ 64) × (q < 2 ^ 32) }
+    pub(crate) fn put_page(&mut self, kind: Kind, q: usize, old: &Page, new: &Page)
+        requires { (of_page kind ≡ true) × (q < 2 ^ 32) }
         ensures { Sent ⊤ (sending (cycle_of kind) 64 q new.now (window 64 old.now new.now)) self.old self.new }
     {
         let Some(Run { start, length }) = window(old, new) else {
@@ -87,8 +88,8 @@ impl<'a> Sheet<'a> {
 }
 
 // The bytes of a page from a place on, which come round at the page's end, as many as fill the buffer.
-fn send_bytes(data: &mut [u8], page: &[u8], start: usize)
-    requires { (length page.now ≡ 64) × (start < 64) }
+fn send_bytes(data: &mut [u8], page: &Page, start: usize)
+    requires { start < 64 }
     ensures { «data».new ≡ bytes_from 64 page.now start (length «data».old) }
 {
     for (i, byte) in data.iter_mut().enumerate() {

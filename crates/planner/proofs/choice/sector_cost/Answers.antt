@@ -34,7 +34,7 @@ erase_costs-requires g c =
       count_bound =
           subst (λ m. k * p + p ≤ m.shape.sectors * m.shape.pages) same
           (inside (g.P.Part.meaning c.args.part.now) k p e c.requires.1);
-      presets_bound = (omega (arith, touched.erased), omega (arith, touched.erased));
+      presets_bound = (omega (arith, touched.bound), omega (arith, touched.bound));
     }
 
 -- the choice, once both costs are known
@@ -69,8 +69,8 @@ returns-in-Some g c =
     record {
       looked = looked_join g.P.Part g.met.P.Part.joins _ _ _ _ _ _ touched.looked erase.looked (omega (arith, on_and_off a b (k * p) p, e));
       bound =
-          let all = on_and_off a b (k * p) p in (omega (arith, erase.apart, touched.apart, all, low, e), omega (arith, erase.apart, touched.apart, all, low, e));
-      presets = (omega (arith, touched.erased), omega (arith, touched.erased));
+          let b = erase.bound p touched.bound.1 in
+          ((omega (arith, b, low, e), omega (arith, b, low, e)), (omega (arith, touched.bound, low, e), omega (arith, touched.bound, low, e)));
       first = λ h. ap (λ (x : Bool × (ℕ × ℕ)). x.0) (both h);
       value = λ h. ap (λ (x : Bool × (ℕ × ℕ)). x.1) (both h);
       touched = λ h. touched.presets h ∙ ap (λ n. on_from m a b (k * n) n) e;
@@ -97,8 +97,7 @@ returns-in-None g c =
     (erase.value (touched.looked.keeps h) (touched.presets h ∙ ap (λ n. on_from n a b (k * p) p) (sym touched.looked.same)))) in
     record {
       looked = looked_join g.P.Part g.met.P.Part.joins _ _ _ _ _ _ touched.looked erase.looked (omega (arith, on_and_off a b (k * p) p, e));
-      bound = (omega (arith, touched.keeping), omega (arith, touched.keeping));
-      presets = (omega (arith, touched.erased), omega (arith, touched.erased));
+      bound = ((omega (arith, touched.bound, low, e), omega (arith, touched.bound, low, e)), (omega (arith, touched.bound, low, e), omega (arith, touched.bound, low, e)));
       first = λ h. ap (λ (x : Bool × (ℕ × ℕ)). x.0) (both h);
       value = λ h. ap (λ (x : Bool × (ℕ × ℕ)). x.1) (both h);
       touched = λ h. touched.presets h ∙ ap (λ n. on_from m a b (k * n) n) e;

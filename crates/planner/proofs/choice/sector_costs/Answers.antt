@@ -20,10 +20,8 @@ marked marks f k v h e before i l =
 pub loop-k-init : goal.loop-k-init
 loop-k-init g c = (
   looked_none g.P.Part _ c.args.part.now (g.met.P.Part.stays c.args.part.now),
-  omega arith,
-  omega arith,
-  omega arith,
-  omega arith,
+  (omega arith, omega arith),
+  (omega arith, omega arith),
   λ _. refl,
   λ _ i l. absurd (omega arith),
   λ _. refl,
@@ -41,21 +39,19 @@ loop-k-preserved g c =
     let cost = parts _ _ _ c.add_assign.ensures.after.0 in
     let presets = parts _ _ _ c.add_assign.ensures.after.1 in (
       looked_join g.P.Part g.met.P.Part.joins _ _ _ _ _ _ inv.0 sector.looked (omega (arith, mul_more k m.shape.pages, ap (λ (x : Meaning). x.shape.pages) inv.0.same)),
-      omega (arith, inv.1, sector.bound, cost.0),
-      omega (arith, inv.2, sector.bound, cost.1),
-      omega (arith, inv.3, sector.presets, presets.0),
-      omega (arith, inv.4, sector.presets, presets.1),
+      (omega (arith, inv.1, sector.bound, cost.0), omega (arith, inv.1, sector.bound, cost.1)),
+      (omega (arith, inv.2, sector.bound, presets.0), omega (arith, inv.2, sector.bound, presets.1)),
       λ h.
           c.add_assign.ensures.after.0
-          ∙ ap₂ (λ x y. fewest.plus x y) (inv.5 h)
+          ∙ ap₂ (λ x y. fewest.plus x y) (inv.3 h)
           (sector.value (inv.0.keeps h) ∙ ap (λ x. sector_cost fewest x.shape (kept x a b) (preset x a b) k) inv.0.same)
           ∙ sym (sum_more fewest k (sector_cost fewest m.shape (kept m a b) (preset m a b))),
       λ h.
           marked c.loop-k.erased (erases m a b) k c.sector_cost-sector.result.erased (omega arith)
-          (sector.first (inv.0.keeps h) ∙ ap (λ x. erases x a b k) inv.0.same) (inv.6 h),
+          (sector.first (inv.0.keeps h) ∙ ap (λ x. erases x a b k) inv.0.same) (inv.4 h),
       λ h.
           c.add_assign.ensures.after.1
-          ∙ ap₂ (λ x y. fewest.plus x y) (inv.7 h)
+          ∙ ap₂ (λ x y. fewest.plus x y) (inv.5 h)
           (sector.touched (inv.0.keeps h) ∙ ap (λ x. over_sector fewest x.shape (preset_on x a b) k) inv.0.same)
           ∙ sym (sum_more fewest k (over_sector fewest m.shape (preset_on m a b))),
     )

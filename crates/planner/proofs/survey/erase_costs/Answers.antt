@@ -22,8 +22,6 @@ loop-q-init g c =
           sym
           (ap (λ n. fewest.plus c.plus-cost.result (off_from (g.P.Part.meaning c.args.part.now) c.args.write.address c.args.write.bytes.now c.args.first n)) none
           ∙ plus_none (fewest_lawful 64) c.plus-cost.result),
-      omega arith,
-      omega arith,
     )
 
 pub returns-then-at_most : goal.returns-then-at_most
@@ -38,8 +36,7 @@ returns-then-at_most g c =
     let f : ℕ → ℕ × ℕ = λ i. preset_off m a b (c.args.first + i) in
     record {
       looked = looked_most g.P.Part _ _ _ _ inv.0 (off_front c.args.write.address c.args.write.bytes.now c.args.first c.args.count (c.loop-q.q - c.args.first) (omega arith));
-      bound = tt;
-      apart = tt;
+      bound = λ n u. tt;
       value =
           λ h e.
           sym (cond-true _ _ _
@@ -68,8 +65,6 @@ loop-q-preserved g c =
           (page.value (inv.0.keeps h) ∙ ap (λ x. preset_off x a b c.loop-q.q) inv.0.same)
           ∙ ((fewest_lawful 64).plus_assoc start (sum_to fewest (c.loop-q.q - c.args.first) f) (preset_off m a b c.loop-q.q)
           ∙ ap (λ x. fewest.plus start x) (sym (sum_next fewest (preset_off m a b) c.args.first c.loop-q.q (omega arith)))),
-      omega (arith, inv.4, page.apart, sum.0, off_next a b c.args.first c.loop-q.q (omega arith)),
-      omega (arith, inv.5, page.apart, sum.1, off_next a b c.args.first c.loop-q.q (omega arith)),
     )
 
 -- the cost, once no page is left
@@ -86,8 +81,7 @@ returns-then-at_most-2 g c =
     let m = g.P.Part.meaning c.args.part.now in
     record {
       looked = looked_most g.P.Part _ _ _ _ inv.0 (off_front c.args.write.address c.args.write.bytes.now c.args.first c.args.count (c.loop-q.q - c.args.first) (omega arith));
-      bound = tt;
-      apart = tt;
+      bound = λ n u. tt;
       value =
           λ h e.
           sym (cond-true _ _ _
@@ -103,10 +97,7 @@ returns-else-at_most-2 g c =
     let m = g.P.Part.meaning c.args.part.now in
     record {
       looked = looked_most g.P.Part _ _ _ _ inv.0 (off_front c.args.write.address c.args.write.bytes.now c.args.first c.args.count (c.loop-q.q - c.args.first) (omega arith));
-      bound = (omega (arith, inv.1, start.0), omega (arith, inv.2, start.1));
-      apart =
-          let n = off_front c.args.write.address c.args.write.bytes.now c.args.first c.args.count (c.loop-q.q - c.args.first) (omega arith) in
-          (omega (arith, inv.4, n, start.0), omega (arith, inv.5, n, start.1));
+      bound = λ n u. (omega (arith, inv.1, start.0, u), omega (arith, inv.2, start.1, u));
       value =
           λ h e.
           sym (cond-false _ _ _ (sym c.if-at_most-2.ensures))

@@ -1,4 +1,4 @@
-use Rattle.std.proofs.Common.{ℕ, sym, ap, ◌∙◌, subst, arith}
+use Rattle.std.proofs.Common.{sym, ap, ◌∙◌, subst, arith}
 use Rattle.std.proofs.lemmas.Bool.{cond-true, cond-false}
 use Rattle.least.specs.Fewest.{fewest}
 use Rattle.least.specs.Window.{window}
@@ -18,7 +18,6 @@ returns-then-touches g c =
     record {
       looked = looked_none g.P.Part _ c.args.part.now (g.met.P.Part.stays c.args.part.now);
       bound = (omega arith, omega arith);
-      apart = (omega arith, omega arith);
       value = λ h. sym (cond-true _ _ _ (sym c.if-touches.ensures));
     }
 
@@ -30,9 +29,6 @@ returns g c =
     record {
       looked = subst (λ n. LookedBy g.P.Part n c.args.part.now c.read_page-page.new.part) (sym (cond-false _ _ _ off)) page.looked;
       bound = c.page_cost.ensures.bound;
-      apart =
-          let n = cond-false {A = ℕ} _ 0 64 off in
-          let b = c.page_cost.ensures.bound in (omega (arith, n, b), omega (arith, n, b));
       value =
           λ h.
           c.page_cost.ensures.value

@@ -23,14 +23,14 @@ returns-then-is_full c =
       | then-is_full-via-then-is_full v ↦ inl (leb-true _ _ (sym v.if-is_full.ensures))
       | then-is_full-via-else-is_full+then-length-self v ↦ inr (omega (arith, v.if-length-self.true))
     ] in
-    sent-short c.args.kind c.requires.0 64 c.args.q c.args.new.now w _ (window_is c.args.old.now c.args.new.now w c.requires.1 c.requires.2 (rw c.in-Some.is at c.window-2.view_is ∙ c.window.ensures.value)) sheet no_room
+    sent-short c.args.kind c.requires.0 64 c.args.q c.args.new.now w _ (window_is c.args.old.now c.args.new.now w c.told-old c.told-new (rw c.in-Some.is at c.window-2.view_is ∙ c.window.ensures.value)) sheet no_room
 
 pub returns : goal.returns
 returns c =
     let sheet = c.args.self.now in
     let w : ℕ × ℕ = (c.in-Some.field-0.start, c.in-Some.field-0.length) in
     let n : length (take (sheet.sent + w.1 - sheet.sent) (drop sheet.sent sheet.data.now)) ≡ w.1 = simp (length-take, length-drop) (omega arith) in
-    sent-page c.args.kind c.requires.0 64 c.args.q c.args.new.now w _ (window_is c.args.old.now c.args.new.now w c.requires.1 c.requires.2 (rw c.in-Some.is at c.window-2.view_is ∙ c.window.ensures.value))
+    sent-page c.args.kind c.requires.0 64 c.args.q c.args.new.now w _ (window_is c.args.old.now c.args.new.now w c.told-old c.told-new (rw c.in-Some.is at c.window-2.view_is ∙ c.window.ensures.value))
     sheet _ refl refl refl
     (put_run 64 c.args.new.now sheet.data.now c.send_bytes.new.data w.0 sheet.sent w.1 _ (omega arith) (omega arith) (c.send_bytes.ensures ∙ ap (λ k. bytes_from 64 c.args.new.now w.0 k) n))
     refl refl
