@@ -9,22 +9,16 @@ ghost use Rattle.planner.specs.Lists.{bulk_list, page_list, pages_list, sector_l
 ghost use Rattle.planner.specs.Choice.{Chosen};
 ghost use Rattle.planner.specs.Call.{plan_list};
 
-use crate::chosen::{Choice, Erasure};
+use crate::chosen::{Choice, Erasure, Pages};
 use crate::look::{both_pages, touches, wanted_page};
 use crate::overlay::Write;
 use crate::page::{Page, blank, only_lowers};
 use crate::sheet::Sheet;
 use least::step::Step;
+use memory::geometry::MOST_SECTORS;
 use memory::kind::Kind;
 use memory::model::PAGE_BYTES;
 use part::part::Part;
-
-// Pages that are written as they stand, or once erased.
-#[derive(Clone, Copy)]
-pub enum Pages {
-    Kept,
-    Erased,
-}
 
 // How a page is written that was not erased.
 fn kept_kind(old: &Page, new: &Page) -> Kind
@@ -81,36 +75,40 @@ fn put_pages<P: Part>(
     }
 }
 
-// Sector k, erased first or not.
+// Sector k, erased first if its pages are to be.
 fn put_sector<P: Part>(
     part: &mut P,
     write: Write<'_>,
-    erased: bool,
+    pages: Pages,
     k: usize,
     sheet: &mut Sheet<'_>,
 )
     requires { Fitting (P.Part.meaning part.old) write.address write.bytes.now × (k < (P.Part.meaning part.old).shape.sectors) }
     ensures looked { LookedBy P.Part (64 * (P.Part.meaning part.old).shape.pages) part.old part.new }
-    ensures sent { Sent (P.Part.intact part.old) (sector_list (P.Part.meaning part.old) write.entry.address write.entry.bytes.now erased k) sheet.old sheet.new }
+    ensures sent { Sent (P.Part.intact part.old) (sector_list (P.Part.meaning part.old) write.entry.address write.entry.bytes.now pages k) sheet.old sheet.new }
 {
     let count = part.pages();
     let first = k * count;
-    if !erased {
-        return put_pages(part, write, Pages::Kept, first, count, sheet);
+    if let Pages::Erased = pages {
+        sheet.put_erase(Kind::SectorErase, first * PAGE_BYTES);
     }
-    sheet.put_erase(Kind::SectorErase, first * PAGE_BYTES);
-    put_pages(part, write, Pages::Erased, first, count, sheet);
+    put_pages(part, write, pages, first, count, sheet);
 }
 
-// The sectors, those that are marked erased first.
-fn put_sectors<P: Part>(part: &mut P, write: Write<'_>, marks: &[bool], sheet: &mut Sheet<'_>)
-    requires { Fitting (P.Part.meaning part.old) write.address write.bytes.now × (length marks.now ≡ 128) }
+// The sectors by their marks.
+fn put_sectors<P: Part>(
+    part: &mut P,
+    write: Write<'_>,
+    marks: &[Pages; MOST_SECTORS],
+    sheet: &mut Sheet<'_>,
+)
+    requires { Fitting (P.Part.meaning part.old) write.address write.bytes.now }
     ensures looked { LookedBy P.Part (whole (P.Part.meaning part.old)) part.old part.new }
     ensures sent { Sent (P.Part.intact part.old) (sectors_list (P.Part.meaning part.old) write.entry.address write.entry.bytes.now marks.now) sheet.old sheet.new }
 {
     let sectors = part.sectors();
-    for (k, erased) in marks[..sectors].iter().enumerate() {
-        put_sector(part, write, *erased, k, sheet);
+    for (k, pages) in marks[..sectors].iter().enumerate() {
+        put_sector(part, write, *pages, k, sheet);
     }
 }
 
@@ -133,7 +131,7 @@ fn put_choice<P: Part>(part: &mut P, write: Write<'_>, choice: &Choice, sheet: &
 {
     match &choice.erasure {
         Erasure::All => put_bulk(part, write, sheet),
-        Erasure::Sectors(erased) => put_sectors(part, write, erased, sheet),
+        Erasure::Sectors(marks) => put_sectors(part, write, marks, sheet),
     }
 }
 
