@@ -10,7 +10,7 @@ use Rattle.part.specs.Meaning.{Meaning, Event, Sound, asked, carried, polled, cy
 use Rattle.part.specs.Verdict.{read_verdict}
 use Rattle.planner.specs.Overlay.{overlaid}
 use Rattle.planner.specs.Looking.{Fitting, Looked, LookedBy, Readable, asked_bytes, touched, wanted}
-use Rattle.planner.proofs.Overlays.{block-wanted, overlaid_off}
+use Rattle.planner.proofs.Overlays.{block-wanted, length-overlaid, overlaid_off}
 
 cycles_join : (l k : List Event) → cycles l ≡ [] → cycles k ≡ [] → cycles (l ++ k) ≡ []
 cycles_join [] k p q = q
@@ -103,6 +103,9 @@ module _ (m : Meaning) (q : ℕ) (R : Readable m q) where
     page-wanted =
         block-wanted address bytes m.image (omega (arith, F.inside, F.sound.imaged.whole)) (q * 64) 64
         (omega (arith, page-inside, R.sound.imaged.whole))
+
+    pub length-wanted : length (page 64 q (wanted m address bytes)) ≡ 64
+    length-wanted = ap length page-wanted ∙ (length-overlaid address bytes (q * 64) (page 64 q m.image) ∙ length-here)
 
     -- a page that the write does not touch stays
     pub page_off : touched address bytes q ≡ false → page 64 q (wanted m address bytes) ≡ page 64 q m.image

@@ -91,6 +91,7 @@ pub(crate) fn choose<P: Part>(part: &mut P, write: Write<'_>) -> Choice
     ensures looked { LookedBy P.Part (whole (P.Part.meaning part.old) + for_bulk (P.Part.meaning part.old)) part.old part.new }
     ensures value { P.Part.intact part.old → Chosen (P.Part.meaning part.old) write.entry.address write.entry.bytes.now result }
 {
+    // the part's sectors are the first of them
     let mut marks = [Pages::Kept; MOST_SECTORS];
     let count = part.sectors();
     let sectors = sector_costs(part, write, &mut marks[..count]);

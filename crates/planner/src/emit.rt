@@ -135,7 +135,7 @@ fn put_choice<P: Part>(part: &mut P, write: Write<'_>, choice: &Choice, sheet: &
     }
 }
 
-// The plan that was chosen, from the front of each buffer on.
+// The plan that was chosen, from the front of each buffer on: two, as `plan` is lent them.
 pub(crate) fn put_plan<P: Part>(
     part: &mut P,
     write: Write<'_>,
