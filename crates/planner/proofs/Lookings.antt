@@ -1,13 +1,12 @@
 -- One look at a part after another, and what the pages of a part then are.
-use Rattle.std.proofs.Common.{◌≡◌, ℕ, ◌+◌, ◌*◌, ◌<◌, ◌≤◌, Bool, true, false, cond, List, [], ◌∷◌, ◌++◌, length, None, sym, refl, ap, ◌∙◌, subst, inl, inr, ⊎_elim, add_assoc, zero-add, arith}
+use Rattle.std.proofs.Common.{◌≡◌, ℕ, ◌+◌, ◌*◌, ◌<◌, ◌≤◌, false, List, [], ◌∷◌, ◌++◌, length, sym, refl, ap, ◌∙◌, inl, inr, ⊎_elim, add_assoc, zero-add, arith}
 use Rattle.std.proofs.lemmas.Nat.{mul-le}
-use Rattle.std.proofs.lemmas.Bool.{and_cases, cond-true, le-leb, ltb-false}
+use Rattle.std.proofs.lemmas.Bool.{and_cases, ltb-false}
 use Rattle.memory.specs.Shape.{size}
 use Rattle.memory.specs.Page.{page}
 use Rattle.memory.proofs.Blocks.{below_end, length-block}
 use Rattle.part.specs.declared.part.Part.{Ghosts}
 use Rattle.part.specs.Meaning.{Meaning, Event, Sound, asked, carried, polled, cycles, polls}
-use Rattle.part.specs.Verdict.{read_verdict}
 use Rattle.planner.specs.Overlay.{overlaid}
 use Rattle.planner.specs.Looking.{Fitting, Looked, LookedBy, Readable, asked_bytes, touched, wanted}
 use Rattle.planner.proofs.Overlays.{block-wanted, length-overlaid, overlaid_off}
@@ -67,17 +66,6 @@ module _ {S : Type 0} (part : Ghosts S) where
   looked_by n a b p =
       record { same = p.same; keeps = p.keeps; asked = (p.asked.0, p.asked.1, p.asked.2, p.asked.3) }
 
-  -- a read that was done
-  pub looked-read :
-      (a b : S) (n : ℕ) (done : Bool) → done ≡ true → part.meaning b ≡ part.meaning a → (part.intact a → part.intact b)
-      → part.trace a b (cond done (asked n ∷ []) []) → LookedBy part n a b
-  looked-read a b n done e s h t =
-      record {
-        same = s;
-        keeps = h;
-        asked = (asked n ∷ [], subst (λ (d : Bool). part.trace a b (cond d (asked n ∷ []) [])) e t, refl, refl, omega arith);
-      }
-
 -- a part has at most 262,144 pages, 16 MiB
 pub pages_most : (m : Meaning) → Sound m → m.shape.sectors * m.shape.pages ≤ 262144
 pages_most m S = mul-le m.shape.sectors m.shape.pages 128 2048 S.few S.low
@@ -91,9 +79,6 @@ module _ (m : Meaning) (q : ℕ) (R : Readable m q) where
 
   pub page-low : q < 262144
   page-low = omega (arith, R.here, pages_most m R.sound)
-
-  pub page-done : read_verdict m (q * 64) 64 ≡ None
-  page-done = cond-true _ _ _ (le-leb _ _ page-inside) ∙ cond-true _ _ _ R.idle
 
   pub length-here : length (page 64 q m.image) ≡ 64
   length-here = length-block (q * 64) 64 m.image (omega (arith, page-inside, R.sound.imaged.whole))
