@@ -3,8 +3,8 @@ ghost use Rattle.std.specs.Prelude.{◌≡◌, not, ◌&&◌};
 ghost use Rattle.least.specs.Cost.{lesser};
 ghost use Rattle.least.specs.Fewest.{fewest, capped};
 
-// (cycles, data bytes), in the order of pairs. A rule of the project: costs pass as such pairs, from the window and the choice of
-// sectors up to the plan and its callers.
+// (cycles, data bytes), in the order of pairs. A rule of the project: costs pass as such pairs, from what a page costs and the choice
+// of sectors up to the plan and its callers.
 pub type Cost = (usize, usize);
 
 pub const NOTHING: Cost = (0, 0);

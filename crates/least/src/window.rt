@@ -42,7 +42,8 @@ pub fn window(old: &[u8], new: &[u8]) -> Option<Run>
         start: first,
         length: size,
     };
-    // by the places, which are what is reckoned with: pairs with their places, after the first, are no plainer
+    // over the places: each is compared once, and else only reckoned with, so that `zip`, `enumerate` and `skip` would put a place
+    // and its two bytes together only to take them apart again
     for place in first + 1..size {
         if old[place] != new[place] {
             let length = size - (place - last) + 1;

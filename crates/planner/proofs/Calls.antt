@@ -20,6 +20,8 @@ use Rattle.least.specs.Plan.{keep_page, erased_page, least_cost, keep_cycles, pr
 use Rattle.least.specs.Steps.{steps_of, data_of}
 use Rattle.least.specs.Writes.{planned, refused, past_the_end, steps_short, data_short, unless_barred, unless_short, plan_write}
 use Rattle.planner.specs.Looking.{Fitting, wanted}
+use Rattle.planner.specs.declared.chosen.Pages.{Pages}
+use Rattle.planner.specs.declared.chosen.Pages.TheVariants as pages
 use Rattle.planner.specs.declared.chosen.Erasure.{Erasure}
 use Rattle.planner.specs.declared.chosen.Erasure.TheVariants.{All, Sectors}
 use Rattle.planner.specs.Choice.{Chosen, Erased}
@@ -32,10 +34,6 @@ use Rattle.least.proofs.Stepped.{steps_are_cycles}
 use Rattle.planner.proofs.Sendings.{length-steps}
 use Rattle.planner.proofs.Totals.{list_same, list_flat}
 use Rattle.least.proofs.Unreached.{lowest_found}
-
-swapped : {A : Type 0} (b : Bool) (x y : A) → cond (not b) x y ≡ cond b y x
-swapped true x y = refl
-swapped false x y = refl
 
 unless_both : {A : Type 0} (f l : Bool) (x y : A) → (f && not l) ≡ false → x ≡ cond f (cond l x y) x
 unless_both true true x y e = refl
@@ -61,6 +59,14 @@ module _ (m : Meaning) (S : Sound m) (address : ℕ) (bytes : List ℕ) where
       (pages_of m.shape (keep_cycles z m.image (wanted m address bytes)) k)
       (sector_erase (k * m.shape.pages * z) ∷ pages_of m.shape (presets z (wanted m address bytes)) k)
 
+  -- a sector by the test of its costs
+  sector_by :
+      (k : ℕ) (b : Bool)
+      → sector_list m address bytes (cond (not b) pages.Erased pages.Kept) k
+      ≡ cond b (sector_list m address bytes pages.Kept k) (sector_list m address bytes pages.Erased k)
+  sector_by k true = refl
+  sector_by k false = refl
+
   abbrev by_sectors_at : ℕ → List Cycle
   by_sectors_at z = list_to m.shape.sectors (sector_at z)
 
@@ -78,10 +84,10 @@ module _ (m : Meaning) (S : Sound m) (address : ℕ) (bytes : List ℕ) where
 
   module _ (c : Choice) (chosen : Chosen m address bytes c) where
     sectors_list_lem :
-        (marks : List Bool) → Erased m address bytes (Sectors marks) → sectors_list m address bytes marks ≡ by_sectors_at 64
+        (marks : List Pages) → Erased m address bytes (Sectors marks) → sectors_list m address bytes marks ≡ by_sectors_at 64
     sectors_list_lem marks e =
         list_same m.shape.sectors _ _
-        (λ k l. ap (λ b. sector_list m address bytes b k) (e.1 k l) ∙ swapped (fewest.leq (over_sector fewest m.shape (keep_at 64) k) (erase_cost fewest m.shape (erased_at 64) k)) _ _)
+        (λ k l. ap (λ p. sector_list m address bytes p k) (e.1 k l) ∙ sector_by k (fewest.leq (over_sector fewest m.shape (keep_at 64) k) (erase_cost fewest m.shape (erased_at 64) k)))
 
     bulk_list_lem : bulk_list m address bytes ≡ bulk_at 64
     bulk_list_lem =
@@ -99,7 +105,7 @@ module _ (m : Meaning) (S : Sound m) (address : ℕ) (bytes : List ℕ) where
         ∙ plan_at_lem)
 
     pub sectors_are :
-        (marks : List Bool) → c.erasure ≡ Sectors marks → sectors_list m address bytes marks ≡ plan_list m address bytes
+        (marks : List Pages) → c.erasure ≡ Sectors marks → sectors_list m address bytes marks ≡ plan_list m address bytes
     sectors_are marks e =
         let x = erased_by (Sectors marks) e in
         sectors_list_lem marks x

@@ -8,7 +8,7 @@ use Rattle.memory.specs.Cycle.{cycle_of, program, alter, preset}
 use Rattle.part.specs.Meaning.{Meaning}
 use Rattle.least.specs.Window.{window}
 use Rattle.least.specs.Plan.{lowers, keep_cycles, presets, sending}
-use Rattle.planner.specs.declared.emit.Pages.{Pages}
+use Rattle.planner.specs.declared.chosen.Pages.{Pages}
 use Rattle.planner.specs.Lists.{page_list, pages_list}
 use Rattle.planner.proofs.Totals.{list_more}
 

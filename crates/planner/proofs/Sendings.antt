@@ -38,7 +38,7 @@ sent_none known a =
     record {
       steps = refl;
       bytes = refl;
-      put = λ _ _ _. record { listed = refl; laid = refl; used = sym (add-zero a.used); sent = sym (add-zero a.sent) };
+      put = λ _ _ _. record { listed = refl; laid = refl; step_count = sym (add-zero a.step_count); byte_count = sym (add-zero a.byte_count) };
     }
 
 -- what is known may say more, and tell which cycles they are
@@ -51,7 +51,7 @@ sent_as known known' l l' a b f e p =
       bytes = p.bytes;
       put =
           λ h.
-          subst (λ x. a.used + length x ≤ length a.steps.now → a.sent + length (data_of x) ≤ length a.data.now → Put x a b) (e h)
+          subst (λ x. a.step_count + length x ≤ length a.steps.now → a.byte_count + length (data_of x) ≤ length a.data.now → Put x a b) (e h)
           (p.put (f h));
     }
 
@@ -67,25 +67,25 @@ sent_join known known' l k a b c p f q =
           let n = length-append l k in
           let d = ap length (data_join l k) ∙ length-append (data_of l) (data_of k) in
           let x = p.put h (omega arith) (omega arith) in
-          let u : length b.steps.now ≡ length a.steps.now = ap length x.listed ∙ length-sets a.steps.now a.used (steps_from a.sent l) in
-          let v : length b.data.now ≡ length a.data.now = ap length x.laid ∙ length-sets a.data.now a.sent (data_of l) in
-          let s = x.sent in
-          let t = x.used in
+          let u : length b.steps.now ≡ length a.steps.now = ap length x.listed ∙ length-sets a.steps.now a.step_count (steps_from a.byte_count l) in
+          let v : length b.data.now ≡ length a.data.now = ap length x.laid ∙ length-sets a.data.now a.byte_count (data_of l) in
+          let s = x.byte_count in
+          let t = x.step_count in
           let y = q.put (f h) (omega arith) (omega arith) in
-          let s' = y.sent in
-          let t' = y.used in
+          let s' = y.byte_count in
+          let t' = y.step_count in
           record {
             listed =
                 y.listed
-                ∙ (ap (λ z. sets z b.used (steps_from b.sent k)) x.listed
-                ∙ (sets_append a.steps.now a.used (steps_from a.sent l) (steps_from b.sent k) b.used (omega (arith, length-steps a.sent l))
-                ∙ ap (λ z. sets a.steps.now a.used z) (sym (steps_join a.sent l k b.sent s))));
+                ∙ (ap (λ z. sets z b.step_count (steps_from b.byte_count k)) x.listed
+                ∙ (sets_append a.steps.now a.step_count (steps_from a.byte_count l) (steps_from b.byte_count k) b.step_count (omega (arith, length-steps a.byte_count l))
+                ∙ ap (λ z. sets a.steps.now a.step_count z) (sym (steps_join a.byte_count l k b.byte_count s))));
             laid =
                 y.laid
-                ∙ (ap (λ z. sets z b.sent (data_of k)) x.laid
-                ∙ (sets_append a.data.now a.sent (data_of l) (data_of k) b.sent s ∙ ap (λ z. sets a.data.now a.sent z) (sym (data_join l k))));
-            used = omega arith;
-            sent = omega arith;
+                ∙ (ap (λ z. sets z b.byte_count (data_of k)) x.laid
+                ∙ (sets_append a.data.now a.byte_count (data_of l) (data_of k) b.byte_count s ∙ ap (λ z. sets a.data.now a.byte_count z) (sym (data_join l k))));
+            step_count = omega arith;
+            byte_count = omega arith;
           };
     }
 
@@ -135,22 +135,22 @@ module _ (kind : Kind) (paged : of_page kind ≡ true) (z q : ℕ) (new : List �
 
   -- where there is no room, nothing is put
   pub sent-short :
-      (o : Option (ℕ × ℕ)) → Some w ≡ o → (a : Sheet) → (length a.steps.now ≤ a.used) ⊎ (length a.data.now < a.sent + w.1)
+      (o : Option (ℕ × ℕ)) → Some w ≡ o → (a : Sheet) → (length a.steps.now ≤ a.step_count) ⊎ (length a.data.now < a.byte_count + w.1)
       → Sent ⊤ (sending (cycle_of kind) z q new o) a a
   sent-short o e a h =
       subst (λ (x : Option (ℕ × ℕ)). Sent ⊤ (sending (cycle_of kind) z q new x) a a) e
       (record { steps = refl; bytes = refl; put = λ _ room room'. no h room room' })
     where
       no :
-          (length a.steps.now ≤ a.used) ⊎ (length a.data.now < a.sent + w.1) → a.used + length one ≤ length a.steps.now
-          → a.sent + length (data_of one) ≤ length a.data.now → Put one a a
+          (length a.steps.now ≤ a.step_count) ⊎ (length a.data.now < a.byte_count + w.1) → a.step_count + length one ≤ length a.steps.now
+          → a.byte_count + length (data_of one) ≤ length a.data.now → Put one a a
       no (inl u) room room' = absurd (omega arith)
       no (inr u) room room' = absurd (omega (arith, long_one))
 
   pub sent-page :
       (o : Option (ℕ × ℕ)) → Some w ≡ o → (a b : Sheet) → b.steps.ghost_name ≡ a.steps.ghost_name → b.data.ghost_name ≡ a.data.ghost_name
-      → b.steps.now ≡ set a.steps.now a.used (record { kind = kind; address = q * z + w.0; length = w.1; place = a.sent })
-      → b.data.now ≡ sets a.data.now a.sent (bytes_from z new w.0 w.1) → b.used ≡ a.used + 1 → b.sent ≡ a.sent + w.1
+      → b.steps.now ≡ set a.steps.now a.step_count (record { kind = kind; address = q * z + w.0; length = w.1; place = a.byte_count })
+      → b.data.now ≡ sets a.data.now a.byte_count (bytes_from z new w.0 w.1) → b.step_count ≡ a.step_count + 1 → b.byte_count ≡ a.byte_count + w.1
       → Sent ⊤ (sending (cycle_of kind) z q new o) a b
   sent-page o e a b steps bytes s d u v =
       subst (λ (x : Option (ℕ × ℕ)). Sent ⊤ (sending (cycle_of kind) z q new x) a b) e
@@ -160,9 +160,9 @@ module _ (kind : Kind) (paged : of_page kind ≡ true) (z q : ℕ) (new : List �
         put =
             λ _ _ _.
             record {
-              listed = s ∙ ap (λ y. sets a.steps.now a.used y) (sym (step-one a.sent));
-              laid = d ∙ ap (λ y. sets a.data.now a.sent y) (sym data_one);
-              used = u;
-              sent = v ∙ ap (λ y. a.sent + y) (sym long_one);
+              listed = s ∙ ap (λ y. sets a.steps.now a.step_count y) (sym (step-one a.byte_count));
+              laid = d ∙ ap (λ y. sets a.data.now a.byte_count y) (sym data_one);
+              step_count = u;
+              byte_count = v ∙ ap (λ y. a.byte_count + y) (sym long_one);
             };
       })

@@ -1,6 +1,8 @@
 -- What is found of a write: pages that it does not touch, a sector's choice, and the choice of all.
-use Rattle.std.proofs.Common.{◌≡◌, ℕ, zero, suc, ◌+◌, ◌*◌, ◌<◌, ◌≤◌, Bool, true, false, cond, not, ◌&&◌, ◌⊎◌, List, [], replicate, Some, None, sym, refl, ap, ◌∙◌, ap₂, inl, inr, ⊎_elim, zero-add, arith}
-use Rattle.std.proofs.lemmas.Bool.{and_from, and_right, or_parts, or_cases, cases_Bool, cases_eq, cond-false}
+use Rattle.std.proofs.Common.{◌≡◌, ℕ, zero, suc, ◌+◌, ◌*◌, ◌<◌, Bool, true, false, cond, not, ◌&&◌, ◌||◌, List, [], replicate, Some, None, sym, refl, ap, ◌∙◌, ap₂, ⊎_elim, add-zero, add-one, zero-add, arith}
+use Rattle.std.proofs.Math.Bool.{and-true}
+use Rattle.std.proofs.lemmas.Bool.{cases_Bool, cond-false, true≢false}
+use Rattle.memory.proofs.Cycles.{free_at}
 use Rattle.memory.specs.Page.{page}
 use Rattle.memory.specs.Protection.{free}
 use Rattle.memory.specs.Cycle.{program, alter}
@@ -107,35 +109,24 @@ on_flat m address bytes =
 
 -- a sector that is protected
 pub free_not : (prot : ℕ → Bool) (n k : ℕ) → k < n → prot k ≡ true → free prot n ≡ false
-free_not prot zero k h e = absurd (omega arith)
-free_not prot (suc n) k h e = go (cases_eq k n) (λ l. free_not prot n k l e)
-  where
-    go : (k ≡ n) ⊎ (k ≡ n → ⊥) → (k < n → free prot n ≡ false) → (not (prot n) && free prot n) ≡ false
-    go (inl t) ih = ap (λ (x : Bool). not x && free prot n) (ap prot (sym t) ∙ e)
-    go (inr d) ih = and_right (not (prot n)) (free prot n) (ih (omega arith))
+free_not prot n k h e =
+    ⊎_elim (λ t. absurd (true≢false (sym e ∙ free_at prot n k t h))) (λ t. t) (cases_Bool (free prot n))
 
--- a test that no number of a range passes, or one does
-any_none : (p : ℕ → Bool) (a n : ℕ) → list_any p (range_with_len a n) ≡ false → (k : ℕ) → a ≤ k → k < a + n → p k ≡ false
-any_none p a zero e k l u = absurd (omega arith)
-any_none p a (suc n) e k l u =
-    let v = or_parts _ _ e in
-    ⊎_elim (λ t. ap p t ∙ v.0) (λ d. any_none p (a + 1) n v.1 k (omega (arith, d)) (omega arith)) (cases_eq k a)
+-- no sector of a range is protected, and none before it
+next : (x y z : Bool) → (not (x || y) && z) ≡ (not y && (not x && z))
+next true true z = refl
+next true false z = refl
+next false true z = refl
+next false false z = refl
 
-any_some : (p : ℕ → Bool) (a n : ℕ) → list_any p (range_with_len a n) ≡ true → (k : ℕ) × (k < a + n) × (p k ≡ true)
-any_some p a zero e = let z : ◌≡◌ {A = ℕ} 0 1 = cc in absurd (omega arith)
-any_some p a (suc n) e =
-    ⊎_elim (λ t. (a, omega arith, t)) (λ t. let r = any_some p (a + 1) n t in (r.0, omega (arith, r.1), r.2)) (or_cases _ _ e)
-
-free_if : (prot : ℕ → Bool) (n : ℕ) → ((k : ℕ) → k < n → prot k ≡ false) → free prot n ≡ true
-free_if prot zero h = refl
-free_if prot (suc n) h = and_from (not (prot n)) (free prot n) (ap not (h n (omega arith))) (free_if prot n (λ k l. h k (omega arith)))
+none_of : (prot : ℕ → Bool) (a n : ℕ) → (not (list_any prot (range_with_len a n)) && free prot a) ≡ free prot (a + n)
+none_of prot a zero = ap (free prot) (sym (add-zero a))
+none_of prot a (suc n) =
+    next (prot a) _ (free prot a) ∙ ap (λ z. not (list_any prot (range_with_len (a + 1) n)) && z) (sym (ap (free prot) (add-one a)))
+    ∙ none_of prot (a + 1) n ∙ ap (free prot) (omega arith)
 
 pub free_is : (prot : ℕ → Bool) (n : ℕ) → not (list_any prot (range_with_len 0 n)) ≡ free prot n
-free_is prot n =
-    ⊎_elim
-    (λ t. let r = any_some _ 0 n t in ap not t ∙ sym (free_not prot n r.0 (omega (arith, r.1)) r.2))
-    (λ t. ap not t ∙ sym (free_if prot n (λ k l. any_none _ 0 n t k (omega arith) (omega (arith, l)))))
-    (cases_Bool (list_any prot (range_with_len 0 n)))
+free_is prot n = sym (and-true _) ∙ none_of prot 0 n ∙ ap (free prot) (zero-add n)
 
 -- the choice between the sectors and a bulk erase, which may not be accepted
 module _ (fr : Bool) (limit cost : ℕ × ℕ) where

@@ -1,10 +1,10 @@
 -- The cycles of a choice, page by page.
-use Rattle.std.specs.Prelude.{ℕ, ◌+◌, ◌*◌, Bool, false, cond, List, ◌∷◌, slice_index_or}
+use Rattle.std.specs.Prelude.{ℕ, ◌+◌, ◌*◌, List, ◌∷◌, slice_index_or}
 use Rattle.memory.specs.Cycle.{Cycle, sector_erase, bulk_erase}
 use Rattle.part.specs.Meaning.{Meaning}
 use Rattle.least.specs.Plan.{keep_cycles, presets, list_to}
-use Rattle.planner.specs.declared.emit.Pages.{Pages}
-use Rattle.planner.specs.declared.emit.Pages.TheVariants.{Kept, Erased}
+use Rattle.planner.specs.declared.chosen.Pages.{Pages}
+use Rattle.planner.specs.declared.chosen.Pages.TheVariants.{Kept, Erased}
 use Rattle.planner.specs.Looking.{wanted}
 
 module _ (m : Meaning) (address : ℕ) (bytes : List ℕ) where
@@ -17,14 +17,14 @@ module _ (m : Meaning) (address : ℕ) (bytes : List ℕ) where
   abbrev pub pages_list : Pages → ℕ → ℕ → List Cycle
   pages_list pages q n = list_to n (λ j. page_list pages (q + j))
 
-  abbrev pub sector_list : Bool → ℕ → List Cycle
-  sector_list erased k =
-      cond erased (sector_erase (k * m.shape.pages * 64) ∷ pages_list Erased (k * m.shape.pages) m.shape.pages)
-      (pages_list Kept (k * m.shape.pages) m.shape.pages)
+  -- those of sector k, and an erase before them where they are erased
+  abbrev pub sector_list : Pages → ℕ → List Cycle
+  sector_list Kept k = pages_list Kept (k * m.shape.pages) m.shape.pages
+  sector_list Erased k = sector_erase (k * m.shape.pages * 64) ∷ pages_list Erased (k * m.shape.pages) m.shape.pages
 
   abbrev pub bulk_list : List Cycle
   bulk_list = bulk_erase ∷ pages_list Erased 0 (m.shape.sectors * m.shape.pages)
 
   -- sectors with their marks
-  abbrev pub sectors_list : List Bool → List Cycle
-  sectors_list marks = list_to m.shape.sectors (λ k. sector_list (slice_index_or marks k false) k)
+  abbrev pub sectors_list : List Pages → List Cycle
+  sectors_list marks = list_to m.shape.sectors (λ k. sector_list (slice_index_or marks k Kept) k)

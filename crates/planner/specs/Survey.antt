@@ -1,12 +1,18 @@
 -- What is found out of a write before it is planned.
-use Rattle.std.specs.Prelude.{ℕ, ◌+◌, Bool, cond, not, ◌&&◌, List, Some, None, Option}
+use Rattle.std.specs.Prelude.{ℕ, ◌+◌, ◌*◌, ◌≤◌, Bool, cond, not, ◌&&◌, List, Some, None, Option}
 use Rattle.memory.specs.Protection.{free}
 use Rattle.part.specs.Meaning.{Meaning, protected_at}
 use Rattle.least.specs.Cost.{sum_to}
 use Rattle.least.specs.Fewest.{fewest}
 use Rattle.least.specs.Plan.{keep_page, erased_page}
 use Rattle.least.specs.Sectors.{over_sector, erase_cost, sectors_cost, bulk_cost}
+use Rattle.planner.specs.declared.chosen.Pages.{Pages}
+use Rattle.planner.specs.declared.chosen.Pages.TheVariants.{Kept, Erased}
 use Rattle.planner.specs.Looking.{touched, wanted}
+
+-- no more than n pages cost
+abbrev pub UpTo : ℕ → ℕ × ℕ → Type 0
+UpTo n cost = (cost.0 ≤ n) × (cost.1 ≤ 64 * n)
 
 module _ (m : Meaning) (address : ℕ) (bytes : List ℕ) where
   -- page q as it stands, and once erased
@@ -45,6 +51,10 @@ module _ (m : Meaning) (address : ℕ) (bytes : List ℕ) where
   -- the sector is erased first: only if that is strictly lower
   abbrev pub erases : ℕ → Bool
   erases k = not (fewest.leq (over_sector fewest m.shape kept k) (erase_cost fewest m.shape preset k))
+
+  -- and so its pages
+  abbrev pub sector_pages : ℕ → Pages
+  sector_pages k = cond (erases k) Erased Kept
 
   abbrev pub by_sectors : ℕ × ℕ
   by_sectors = sectors_cost fewest m.shape kept preset

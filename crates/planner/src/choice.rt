@@ -1,15 +1,16 @@
 // How a write is carried out at least cost: all erased first, or sector by sector.
-ghost use Rattle.std.specs.Prelude.{◌≡◌, ℕ, ◌+◌, ◌*◌, ◌<◌, ◌≤◌, false, length, if◌then◌else◌, None, slice_index_or};
+ghost use Rattle.std.specs.Prelude.{◌≡◌, ℕ, ◌+◌, ◌*◌, ◌<◌, ◌≤◌, length, if◌then◌else◌, None, slice_index_or};
 ghost use Rattle.memory.specs.Protection.{free};
 ghost use Rattle.part.specs.Meaning.{protected_at};
 ghost use Rattle.least.specs.Fewest.{fewest};
 ghost use Rattle.least.specs.Sectors.{bulk_cost, over_sector, sector_cost};
 ghost use Rattle.planner.specs.Asking.{for_bulk, whole};
 ghost use Rattle.planner.specs.Looking.{Fitting, LookedBy};
-ghost use Rattle.planner.specs.Survey.{below, by_sectors, erases, kept, on_all, preset, preset_on};
+ghost use Rattle.planner.specs.Survey.{UpTo, below, by_sectors, kept, on_all, preset, preset_on, sector_pages};
+ghost use Rattle.planner.specs.declared.chosen.Pages.TheVariants.{Kept};
 ghost use Rattle.planner.specs.Choice.{Chosen};
 
-use crate::chosen::{Choice, Erasure};
+use crate::chosen::{Choice, Erasure, Pages};
 use crate::look::protects;
 use crate::overlay::Write;
 use crate::survey::{Costs, erase_costs, touched_costs};
@@ -17,19 +18,18 @@ use least::cost::Cost;
 use memory::geometry::MOST_SECTORS;
 use part::part::Part;
 
-// Whether a sector is erased first, and what it then costs.
+// How the pages of a sector are written, and what it then costs.
 #[derive(Clone, Copy)]
 struct Sector {
-    erased: bool,
+    pages: Pages,
     costs: Costs,
 }
 
 fn sector_cost<P: Part>(part: &mut P, write: Write<'_>, k: usize) -> Sector
     requires { Fitting (P.Part.meaning part.old) write.address write.bytes.now × (k < (P.Part.meaning part.old).shape.sectors) }
-    ensures looked { LookedBy P.Part.meaning P.Part.trace P.Part.intact (64 * (P.Part.meaning part.old).shape.pages) part.old part.new }
-    ensures bound { (result.costs.cost.0 ≤ 2049) × (result.costs.cost.1 ≤ 131072) }
-    ensures presets { (result.costs.presets.0 ≤ 2048) × (result.costs.presets.1 ≤ 131072) }
-    ensures first { P.Part.intact part.old → result.erased ≡ erases (P.Part.meaning part.old) write.entry.address write.entry.bytes.now k }
+    ensures looked { LookedBy P.Part (64 * (P.Part.meaning part.old).shape.pages) part.old part.new }
+    ensures bound { UpTo 4097 result.costs.cost × UpTo 2048 result.costs.presets }
+    ensures first { P.Part.intact part.old → result.pages ≡ sector_pages (P.Part.meaning part.old) write.entry.address write.entry.bytes.now k }
     ensures value { P.Part.intact part.old → result.costs.cost ≡ sector_cost fewest (P.Part.meaning part.old).shape (kept (P.Part.meaning part.old) write.entry.address write.entry.bytes.now) (preset (P.Part.meaning part.old) write.entry.address write.entry.bytes.now) k }
     ensures touched { P.Part.intact part.old → result.costs.presets ≡ over_sector fewest (P.Part.meaning part.old).shape (preset_on (P.Part.meaning part.old) write.entry.address write.entry.bytes.now) k }
 {
@@ -38,32 +38,29 @@ fn sector_cost<P: Part>(part: &mut P, write: Write<'_>, k: usize) -> Sector
     let kept = touched_costs(part, write, first, pages);
     match erase_costs(part, write, first, pages, kept.presets, kept.cost) {
         Some(cost) => Sector {
-            erased: true,
-            costs: Costs {
-                cost,
-                presets: kept.presets,
-            },
+            pages: Pages::Erased,
+            costs: Costs { cost, ..kept },
         },
         None => Sector {
-            erased: false,
+            pages: Pages::Kept,
             costs: kept,
         },
     }
 }
 
-// What the sectors cost together, and the presets of all touched pages. Marks the sectors that are erased first.
-fn sector_costs<P: Part>(part: &mut P, write: Write<'_>, erased: &mut [bool]) -> Costs
-    requires { Fitting (P.Part.meaning part.old) write.address write.bytes.now × (length erased.old ≡ (P.Part.meaning part.old).shape.sectors) }
-    ensures looked { LookedBy P.Part.meaning P.Part.trace P.Part.intact (whole (P.Part.meaning part.old)) part.old part.new }
-    ensures bound { (result.presets.0 ≤ 262144) × (result.presets.1 ≤ 16777216) }
+// What the sectors cost together, and the presets of all touched pages. Marks each sector.
+fn sector_costs<P: Part>(part: &mut P, write: Write<'_>, marks: &mut [Pages]) -> Costs
+    requires { Fitting (P.Part.meaning part.old) write.address write.bytes.now × (length marks.old ≡ (P.Part.meaning part.old).shape.sectors) }
+    ensures looked { LookedBy P.Part (whole (P.Part.meaning part.old)) part.old part.new }
+    ensures bound { UpTo 262144 result.presets }
     ensures value { P.Part.intact part.old → result.cost ≡ by_sectors (P.Part.meaning part.old) write.entry.address write.entry.bytes.now }
     ensures touched { P.Part.intact part.old → result.presets ≡ on_all (P.Part.meaning part.old) write.entry.address write.entry.bytes.now }
-    ensures marks { P.Part.intact part.old → (k : ℕ) → k < (P.Part.meaning part.old).shape.sectors → slice_index_or erased.new k false ≡ erases (P.Part.meaning part.old) write.entry.address write.entry.bytes.now k }
+    ensures marks { P.Part.intact part.old → (k : ℕ) → k < (P.Part.meaning part.old).shape.sectors → slice_index_or marks.new k Kept ≡ sector_pages (P.Part.meaning part.old) write.entry.address write.entry.bytes.now k }
 {
     let mut costs = Costs::NONE;
-    for (k, mark) in erased.iter_mut().enumerate() {
+    for (k, mark) in marks.iter_mut().enumerate() {
         let sector = sector_cost(part, write, k);
-        *mark = sector.erased;
+        *mark = sector.pages;
         costs += sector.costs;
     }
     costs
@@ -78,8 +75,8 @@ fn is_free<P: Part>(part: &P) -> bool
 // A bulk erase and then presets, if it is accepted and below what the sectors cost, from the presets of the touched pages.
 fn bulk_cost<P: Part>(part: &mut P, write: Write<'_>, presets: Cost, limit: Cost) -> Option<Cost>
     requires fitting { Fitting (P.Part.meaning part.old) write.address write.bytes.now }
-    requires presets_bound { (presets.0 ≤ 262144) × (presets.1 ≤ 16777216) }
-    ensures looked { LookedBy P.Part.meaning P.Part.trace P.Part.intact (for_bulk (P.Part.meaning part.old)) part.old part.new }
+    requires presets_bound { UpTo 262144 presets }
+    ensures looked { LookedBy P.Part (for_bulk (P.Part.meaning part.old)) part.old part.new }
     ensures value { P.Part.intact part.old → presets ≡ on_all (P.Part.meaning part.old) write.entry.address write.entry.bytes.now → result ≡ (if free (protected_at (P.Part.meaning part.old)) (P.Part.meaning part.old).shape.sectors then below limit (bulk_cost fewest (P.Part.meaning part.old).shape (preset (P.Part.meaning part.old) write.entry.address write.entry.bytes.now)) else None) }
 {
     if !is_free(part) {
@@ -91,19 +88,20 @@ fn bulk_cost<P: Part>(part: &mut P, write: Write<'_>, presets: Cost, limit: Cost
 
 pub(crate) fn choose<P: Part>(part: &mut P, write: Write<'_>) -> Choice
     requires { Fitting (P.Part.meaning part.old) write.address write.bytes.now }
-    ensures looked { LookedBy P.Part.meaning P.Part.trace P.Part.intact (whole (P.Part.meaning part.old) + for_bulk (P.Part.meaning part.old)) part.old part.new }
+    ensures looked { LookedBy P.Part (whole (P.Part.meaning part.old) + for_bulk (P.Part.meaning part.old)) part.old part.new }
     ensures value { P.Part.intact part.old → Chosen (P.Part.meaning part.old) write.entry.address write.entry.bytes.now result }
 {
-    let mut erased = [false; MOST_SECTORS];
+    // the part's sectors are the first of them
+    let mut marks = [Pages::Kept; MOST_SECTORS];
     let count = part.sectors();
-    let sectors = sector_costs(part, write, &mut erased[..count]);
+    let sectors = sector_costs(part, write, &mut marks[..count]);
     match bulk_cost(part, write, sectors.presets, sectors.cost) {
         Some(cost) => Choice {
             erasure: Erasure::All,
             cost,
         },
         None => Choice {
-            erasure: Erasure::Sectors(erased),
+            erasure: Erasure::Sectors(marks),
             cost: sectors.cost,
         },
     }

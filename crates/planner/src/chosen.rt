@@ -3,11 +3,19 @@
 use least::cost::Cost;
 use memory::geometry::MOST_SECTORS;
 
-// What is erased first: all, or the sectors that are marked.
+// Pages that are written as they stand, or once erased.
+#[derive(Clone, Copy, PartialEq, Eq, Debug)]
+pub enum Pages {
+    Kept,
+    Erased,
+}
+
+// What is erased first: all, or the sectors whose pages are to be erased.
 #[derive(Clone, Copy)]
 pub enum Erasure {
     All,
-    Sectors([bool; MOST_SECTORS]),
+    // a mark for each sector that a part can have: the planner has no heap, and a part says only when it runs how many it has
+    Sectors([Pages; MOST_SECTORS]),
 }
 
 #[derive(Clone, Copy)]

@@ -3,32 +3,25 @@ ghost use Rattle.std.specs.Prelude.{◌≡◌, ℕ, ◌+◌, ◌*◌, ◌<◌, �
 ghost use Rattle.memory.specs.declared.kind.Kind.TheVariants.{Program, Alter};
 ghost use Rattle.least.specs.Plan.{lowers};
 ghost use Rattle.planner.specs.Asking.{whole};
-ghost use Rattle.planner.specs.Looking.{Fitting, LookedBy, Readable};
+ghost use Rattle.planner.specs.Looking.{Fitting, LookedBy, PagesIn, Readable};
 ghost use Rattle.planner.specs.Sending.{Laid, Sent};
 ghost use Rattle.planner.specs.Lists.{bulk_list, page_list, pages_list, sector_list, sectors_list};
 ghost use Rattle.planner.specs.Choice.{Chosen};
 ghost use Rattle.planner.specs.Call.{plan_list};
 
-use crate::chosen::{Choice, Erasure};
+use crate::chosen::{Choice, Erasure, Pages};
 use crate::look::{both_pages, touches, wanted_page};
 use crate::overlay::Write;
-use crate::page::{blank, only_lowers};
+use crate::page::{Page, blank, only_lowers};
 use crate::sheet::Sheet;
 use least::step::Step;
+use memory::geometry::MOST_SECTORS;
 use memory::kind::Kind;
 use memory::model::PAGE_BYTES;
 use part::part::Part;
 
-// Pages that are written as they stand, or once erased.
-#[derive(Clone, Copy)]
-pub enum Pages {
-    Kept,
-    Erased,
-}
-
 // How a page is written that was not erased.
-fn kept_kind(old: &[u8], new: &[u8]) -> Kind
-    requires { length old.now ≡ length new.now }
+fn kept_kind(old: &Page, new: &Page) -> Kind
     ensures { result ≡ (if lowers old.now new.now then Program else Alter) }
 {
     if only_lowers(old, new) {
@@ -42,7 +35,7 @@ fn kept_kind(old: &[u8], new: &[u8]) -> Kind
 // the write does not cover it.
 fn put_page<P: Part>(part: &mut P, write: Write<'_>, pages: Pages, q: usize, sheet: &mut Sheet<'_>)
     requires { Fitting (P.Part.meaning part.old) write.address write.bytes.now × Readable (P.Part.meaning part.old) q }
-    ensures looked { LookedBy P.Part.meaning P.Part.trace P.Part.intact 64 part.old part.new }
+    ensures looked { LookedBy P.Part 64 part.old part.new }
     ensures sent { Sent (P.Part.intact part.old) (page_list (P.Part.meaning part.old) write.entry.address write.entry.bytes.now pages q) sheet.old sheet.new }
 {
     if sheet.is_full() {
@@ -73,8 +66,8 @@ fn put_pages<P: Part>(
     sheet: &mut Sheet<'_>,
 )
     requires fitting { Fitting (P.Part.meaning part.old) write.address write.bytes.now }
-    requires count_bound { first + count ≤ (P.Part.meaning part.old).shape.sectors * (P.Part.meaning part.old).shape.pages }
-    ensures looked { LookedBy P.Part.meaning P.Part.trace P.Part.intact (64 * count) part.old part.new }
+    requires count_bound { PagesIn (P.Part.meaning part.old) first count }
+    ensures looked { LookedBy P.Part (64 * count) part.old part.new }
     ensures sent { Sent (P.Part.intact part.old) (pages_list (P.Part.meaning part.old) write.entry.address write.entry.bytes.now pages first count) sheet.old sheet.new }
 {
     for q in first..first + count {
@@ -82,43 +75,47 @@ fn put_pages<P: Part>(
     }
 }
 
-// Sector k, erased first or not.
+// Sector k, erased first if its pages are to be.
 fn put_sector<P: Part>(
     part: &mut P,
     write: Write<'_>,
-    erased: bool,
+    pages: Pages,
     k: usize,
     sheet: &mut Sheet<'_>,
 )
     requires { Fitting (P.Part.meaning part.old) write.address write.bytes.now × (k < (P.Part.meaning part.old).shape.sectors) }
-    ensures looked { LookedBy P.Part.meaning P.Part.trace P.Part.intact (64 * (P.Part.meaning part.old).shape.pages) part.old part.new }
-    ensures sent { Sent (P.Part.intact part.old) (sector_list (P.Part.meaning part.old) write.entry.address write.entry.bytes.now erased k) sheet.old sheet.new }
+    ensures looked { LookedBy P.Part (64 * (P.Part.meaning part.old).shape.pages) part.old part.new }
+    ensures sent { Sent (P.Part.intact part.old) (sector_list (P.Part.meaning part.old) write.entry.address write.entry.bytes.now pages k) sheet.old sheet.new }
 {
     let count = part.pages();
     let first = k * count;
-    if !erased {
-        return put_pages(part, write, Pages::Kept, first, count, sheet);
+    if let Pages::Erased = pages {
+        sheet.put_erase(Kind::SectorErase, first * PAGE_BYTES);
     }
-    sheet.put_erase(Kind::SectorErase, first * PAGE_BYTES);
-    put_pages(part, write, Pages::Erased, first, count, sheet);
+    put_pages(part, write, pages, first, count, sheet);
 }
 
-// The sectors, those that are marked erased first.
-fn put_sectors<P: Part>(part: &mut P, write: Write<'_>, marks: &[bool], sheet: &mut Sheet<'_>)
-    requires { Fitting (P.Part.meaning part.old) write.address write.bytes.now × (length marks.now ≡ 128) }
-    ensures looked { LookedBy P.Part.meaning P.Part.trace P.Part.intact (whole (P.Part.meaning part.old)) part.old part.new }
+// The sectors by their marks.
+fn put_sectors<P: Part>(
+    part: &mut P,
+    write: Write<'_>,
+    marks: &[Pages; MOST_SECTORS],
+    sheet: &mut Sheet<'_>,
+)
+    requires { Fitting (P.Part.meaning part.old) write.address write.bytes.now }
+    ensures looked { LookedBy P.Part (whole (P.Part.meaning part.old)) part.old part.new }
     ensures sent { Sent (P.Part.intact part.old) (sectors_list (P.Part.meaning part.old) write.entry.address write.entry.bytes.now marks.now) sheet.old sheet.new }
 {
     let sectors = part.sectors();
-    for (k, erased) in marks[..sectors].iter().enumerate() {
-        put_sector(part, write, *erased, k, sheet);
+    for (k, pages) in marks[..sectors].iter().enumerate() {
+        put_sector(part, write, *pages, k, sheet);
     }
 }
 
 // All, erased first.
 fn put_bulk<P: Part>(part: &mut P, write: Write<'_>, sheet: &mut Sheet<'_>)
     requires { Fitting (P.Part.meaning part.old) write.address write.bytes.now }
-    ensures looked { LookedBy P.Part.meaning P.Part.trace P.Part.intact (whole (P.Part.meaning part.old)) part.old part.new }
+    ensures looked { LookedBy P.Part (whole (P.Part.meaning part.old)) part.old part.new }
     ensures sent { Sent (P.Part.intact part.old) (bulk_list (P.Part.meaning part.old) write.entry.address write.entry.bytes.now) sheet.old sheet.new }
 {
     let count = part.sectors() * part.pages();
@@ -129,16 +126,16 @@ fn put_bulk<P: Part>(part: &mut P, write: Write<'_>, sheet: &mut Sheet<'_>)
 // A choice.
 fn put_choice<P: Part>(part: &mut P, write: Write<'_>, choice: &Choice, sheet: &mut Sheet<'_>)
     requires { Fitting (P.Part.meaning part.old) write.address write.bytes.now }
-    ensures looked { LookedBy P.Part.meaning P.Part.trace P.Part.intact (whole (P.Part.meaning part.old)) part.old part.new }
+    ensures looked { LookedBy P.Part (whole (P.Part.meaning part.old)) part.old part.new }
     ensures sent { Sent (P.Part.intact part.old × Chosen (P.Part.meaning part.old) write.entry.address write.entry.bytes.now choice.now) (plan_list (P.Part.meaning part.old) write.entry.address write.entry.bytes.now) sheet.old sheet.new }
 {
     match &choice.erasure {
         Erasure::All => put_bulk(part, write, sheet),
-        Erasure::Sectors(erased) => put_sectors(part, write, erased, sheet),
+        Erasure::Sectors(marks) => put_sectors(part, write, marks, sheet),
     }
 }
 
-// The plan that was chosen, from the front of each buffer on.
+// The plan that was chosen, from the front of each buffer on: two, as `plan` is lent them.
 pub(crate) fn put_plan<P: Part>(
     part: &mut P,
     write: Write<'_>,
@@ -147,7 +144,7 @@ pub(crate) fn put_plan<P: Part>(
     data: &mut [u8],
 )
     requires { Fitting (P.Part.meaning part.old) write.address write.bytes.now }
-    ensures looked { LookedBy P.Part.meaning P.Part.trace P.Part.intact (whole (P.Part.meaning part.old)) part.old part.new }
+    ensures looked { LookedBy P.Part (whole (P.Part.meaning part.old)) part.old part.new }
     ensures laid { P.Part.intact part.old → Chosen (P.Part.meaning part.old) write.entry.address write.entry.bytes.now choice.now → Laid (plan_list (P.Part.meaning part.old) write.entry.address write.entry.bytes.now) steps.old steps.new «data».old «data».new }
 {
     let mut sheet = Sheet::new(steps, data);

@@ -8,15 +8,14 @@ use least::step::Step;
 use memory::kind::Kind;
 use part::fault::PartFault;
 use part::part::Part;
-use part::size::size_of;
+use part::size::{is_inside, size_of};
 
 // What a step sends: its data, if they lie in the buffer; for an erase nothing is looked at.
 fn sent_by<'a>(step: &Step, data: &'a [u8]) -> Option<&'a [u8]>
     ensures { MatchOption result (held step.now.kind (lies step.now «data».now) ≡ false)
         (λ s. (held step.now.kind (lies step.now «data».now) ≡ true) × Same step.now.kind s.now (block step.now.place step.now.length «data».now)) }
 {
-    let end = data.len();
-    if step.place <= end && step.length <= end - step.place {
+    if is_inside(data.len(), step.place, step.length) {
         return Some(&data[step.place..step.place + step.length]);
     }
     match step.kind {
@@ -28,8 +27,8 @@ fn sent_by<'a>(step: &Step, data: &'a [u8]) -> Option<&'a [u8]>
 // Sends one step to a part with nothing due.
 pub fn send<P: Part>(part: &mut P, step: &Step, data: &[u8]) -> Result<(), PartFault>
     ensures { (P.Part.meaning part.old).due ≡ 0 → MatchResult result
-        (λ _. Carries P.Part.meaning P.Part.trace P.Part.intact «data».now step.now part.old part.new)
-        (λ f. Refuses P.Part.meaning P.Part.trace P.Part.intact «data».now step.now f part.old part.new) }
+        (λ _. Carries P.Part «data».now step.now part.old part.new)
+        (λ f. Refuses P.Part «data».now step.now f part.old part.new) }
 {
     let Some(sent) = sent_by(step, data) else {
         if step.address >= size_of(part) {

@@ -1,4 +1,5 @@
-// A sheet: a lent step list and a lent data buffer, filled from their fronts. Where there is no room nothing is put.
+// A sheet: a step list and a data buffer, filled from their fronts. Where there is no room nothing is put. The caller lends the two
+// apart, as the planner has no heap, and each may be too short, which is a refusal of its own.
 ghost use Rattle.std.specs.Prelude.{◌≡◌, ℕ, ◌+◌, ◌*◌, ◌^◌, ◌<◌, ◌≤◌, ⊤, true, [], ◌∷◌, length, nat_le};
 ghost use Rattle.std.proofs.lemmas.List.Edits.{sets};
 ghost use Rattle.memory.specs.Cycle.{cycle_of};
@@ -6,6 +7,7 @@ ghost use Rattle.least.specs.Plan.{bytes_from, sending};
 ghost use Rattle.least.specs.Steps.{address_of};
 ghost use Rattle.least.specs.Window.{window};
 
+use crate::page::Page;
 use least::step::Step;
 use least::window::{Run, window};
 use memory::kind::Kind;
@@ -15,11 +17,11 @@ use memory::model::PAGE_BYTES;
 pub(crate) struct Sheet<'a> {
     steps: &'a mut [Step],
     data: &'a mut [u8],
-    // steps, and data bytes, so far
-    used: usize,
-    sent: usize,
-    ghost steps_fit: { used ≤ length steps.now },
-    ghost data_fit: { sent ≤ length «data».now },
+    // put so far
+    step_count: usize,
+    byte_count: usize,
+    ghost steps_fit: { step_count ≤ length steps.now },
+    ghost data_fit: { byte_count ≤ length «data».now },
 }
 
 impl<'a> Sheet<'a> {
@@ -28,44 +30,45 @@ impl<'a> Sheet<'a> {
     pub(crate) fn new(steps: &'a mut [Step], data: &'a mut [u8]) -> Sheet<'a>
         ensures lent { (result.steps.ghost_name ≡ steps.entry.ghost_name) × (result.data.ghost_name ≡ «data».entry.ghost_name) }
         ensures here { (result.steps.now ≡ steps.old) × (result.data.now ≡ «data».old) }
-        ensures empty { (result.used ≡ 0) × (result.sent ≡ 0) }
+        ensures empty { (result.step_count ≡ 0) × (result.byte_count ≡ 0) }
     {
         Sheet {
             steps,
             data,
-            used: 0,
-            sent: 0,
+            step_count: 0,
+            byte_count: 0,
         }
     }
 
     // Whether there is no room for a step. The step list has room for the plan only, so the plan then has no more steps.
     pub(crate) fn is_full(&self) -> bool
-        ensures { result ≡ nat_le (length self.now.steps.now) self.now.used }
+        ensures { result ≡ nat_le (length self.now.steps.now) self.now.step_count }
     {
-        self.used >= self.steps.len()
+        self.step_count >= self.steps.len()
     }
 
     // The cycle that sends what changes of page q, if anything does.
-    pub(crate) fn put_page(&mut self, kind: Kind, q: usize, old: &[u8], new: &[u8])
-        requires { (of_page kind ≡ true) × (length old.now ≡ 64) × (length new.now ≡ 64) × (q < 2 ^ 32) }
+    pub(crate) fn put_page(&mut self, kind: Kind, q: usize, old: &Page, new: &Page)
+        requires { (of_page kind ≡ true) × (q < 2 ^ 32) }
         ensures { Sent ⊤ (sending (cycle_of kind) 64 q new.now (window 64 old.now new.now)) self.old self.new }
     {
         let Some(Run { start, length }) = window(old, new) else {
             return;
         };
-        if self.is_full() || length > self.data.len() - self.sent {
+        if self.is_full() || length > self.data.len() - self.byte_count {
             return;
         }
-        self.steps[self.used] = Step {
+        self.steps[self.step_count] = Step {
             kind,
             address: q * PAGE_BYTES + start,
             length,
-            place: self.sent,
+            place: self.byte_count,
         };
+        let end = self.byte_count + length;
         let data = &mut *self.data;
-        send_bytes(&mut data[self.sent..self.sent + length], new, start);
-        self.used += 1;
-        self.sent += length;
+        send_bytes(&mut data[self.byte_count..end], new, start);
+        self.step_count += 1;
+        self.byte_count = end;
     }
 
     // An erase, which has no data.
@@ -76,22 +79,23 @@ impl<'a> Sheet<'a> {
         if self.is_full() {
             return;
         }
-        self.steps[self.used] = Step {
+        self.steps[self.step_count] = Step {
             kind,
             address,
             length: 0,
-            place: self.sent,
+            place: self.byte_count,
         };
-        self.used += 1;
+        self.step_count += 1;
     }
 }
 
 // The bytes of a page from a place on, which come round at the page's end, as many as fill the buffer.
-fn send_bytes(data: &mut [u8], page: &[u8], start: usize)
-    requires { (length page.now ≡ 64) × (start < 64) }
+fn send_bytes(data: &mut [u8], page: &Page, start: usize)
+    requires { (start < 64) × (length «data».old ≤ 64) }
     ensures { «data».new ≡ bytes_from 64 page.now start (length «data».old) }
 {
-    for (i, byte) in data.iter_mut().enumerate() {
-        *byte = page[(start + i) % PAGE_BYTES];
-    }
+    let straight = data.len().min(PAGE_BYTES - start);
+    let (front, round) = data.split_at_mut(straight);
+    front.copy_from_slice(&page[start..start + straight]);
+    round.copy_from_slice(&page[..round.len()]);
 }

@@ -1,24 +1,24 @@
 // What a write costs, sector by sector. A page that it touches is read once, for what it costs to keep and once erased; no
 // other page is read unless an erase may still be lower.
-ghost use Rattle.std.specs.Prelude.{◌≡◌, ◌+◌, ◌*◌, ◌^◌, ◌<◌, ◌≤◌, length, IfSome, if◌then◌else◌};
+ghost use Rattle.std.specs.Prelude.{◌≡◌, ℕ, ◌+◌, ◌*◌, ◌^◌, ◌<◌, ◌≤◌, length, IfSome, if◌then◌else◌};
 ghost use Rattle.least.specs.Fewest.{fewest};
 ghost use Rattle.planner.specs.Asking.{bytes_off, bytes_on};
-ghost use Rattle.planner.specs.Looking.{Fitting, LookedBy, Readable, touched};
-ghost use Rattle.planner.specs.Survey.{below, erased_from, kept, kept_from, on_from, preset_off, preset_on};
+ghost use Rattle.planner.specs.Looking.{Fitting, LookedBy, PagesIn, Readable, touched};
+ghost use Rattle.planner.specs.Survey.{UpTo, below, erased_from, kept, kept_from, on_from, preset_off, preset_on};
 
 use crate::look::{both_pages, read_page, touches};
 use crate::overlay::Write;
 use crate::page::{blank, page_cost};
-use least::cost::{Cost, ERASE, NOTHING, at_most};
+use least::cost::{Cost, ERASE, NOTHING, added, at_most};
 use part::part::Part;
 use std::ops::AddAssign;
 
-// Both together, where neither count passes the largest number.
+// Both together. No count here comes near the largest number, so `added` stops at none.
 fn plus(a: Cost, b: Cost) -> Cost
     requires { (a.0 + b.0 < 2 ^ 64) × (a.1 + b.1 < 2 ^ 64) }
     ensures { result ≡ fewest.plus a b }
 {
-    (a.0 + b.0, a.1 + b.1)
+    added(a, b)
 }
 
 // What pages cost, and what the presets cost of those that the write touches.
@@ -49,10 +49,8 @@ impl AddAssign for Costs {
 // Page q as it stands, and once erased if the write touches it: a page that it does not touch costs nothing to keep.
 fn page_costs<P: Part>(part: &mut P, write: Write<'_>, q: usize) -> Costs
     requires { Fitting (P.Part.meaning part.old) write.address write.bytes.now × Readable (P.Part.meaning part.old) q }
-    ensures looked { LookedBy P.Part.meaning P.Part.trace P.Part.intact (if touched write.entry.address write.entry.bytes.now q then 64 else 0) part.old part.new }
-    ensures keeping { (result.cost.0 ≤ 1) × (result.cost.1 ≤ 64) }
-    ensures erased { (result.presets.0 ≤ 1) × (result.presets.1 ≤ 64) }
-    ensures apart { let n = if touched write.entry.address write.entry.bytes.now q then 64 else 0 in (64 * result.presets.0 ≤ n) × (result.presets.1 ≤ n) }
+    ensures looked { LookedBy P.Part (if touched write.entry.address write.entry.bytes.now q then 64 else 0) part.old part.new }
+    ensures bound { UpTo 1 result.cost × UpTo 1 result.presets }
     ensures kept { P.Part.intact part.old → result.cost ≡ kept (P.Part.meaning part.old) write.entry.address write.entry.bytes.now q }
     ensures preset { P.Part.intact part.old → result.presets ≡ preset_on (P.Part.meaning part.old) write.entry.address write.entry.bytes.now q }
 {
@@ -69,9 +67,8 @@ fn page_costs<P: Part>(part: &mut P, write: Write<'_>, q: usize) -> Costs
 // Page q once erased, if the write does not touch it.
 fn rest_cost<P: Part>(part: &mut P, write: Write<'_>, q: usize) -> Cost
     requires { Fitting (P.Part.meaning part.old) write.address write.bytes.now × Readable (P.Part.meaning part.old) q }
-    ensures looked { LookedBy P.Part.meaning P.Part.trace P.Part.intact (if touched write.entry.address write.entry.bytes.now q then 0 else 64) part.old part.new }
-    ensures bound { (result.0 ≤ 1) × (result.1 ≤ 64) }
-    ensures apart { let n = if touched write.entry.address write.entry.bytes.now q then 0 else 64 in (64 * result.0 ≤ n) × (result.1 ≤ n) }
+    ensures looked { LookedBy P.Part (if touched write.entry.address write.entry.bytes.now q then 0 else 64) part.old part.new }
+    ensures bound { UpTo 1 result }
     ensures value { P.Part.intact part.old → result ≡ preset_off (P.Part.meaning part.old) write.entry.address write.entry.bytes.now q }
 {
     if touches(write, q) {
@@ -89,11 +86,9 @@ pub(crate) fn touched_costs<P: Part>(
     count: usize,
 ) -> Costs
     requires fitting { Fitting (P.Part.meaning part.old) write.address write.bytes.now }
-    requires count_bound { first + count ≤ (P.Part.meaning part.old).shape.sectors * (P.Part.meaning part.old).shape.pages }
-    ensures looked { LookedBy P.Part.meaning P.Part.trace P.Part.intact (bytes_on write.entry.address write.entry.bytes.now first count) part.old part.new }
-    ensures keeping { (result.cost.0 ≤ count) × (result.cost.1 ≤ 64 * count) }
-    ensures erased { (result.presets.0 ≤ count) × (result.presets.1 ≤ 64 * count) }
-    ensures apart { let n = bytes_on write.entry.address write.entry.bytes.now first count in (64 * result.presets.0 ≤ n) × (result.presets.1 ≤ n) }
+    requires count_bound { PagesIn (P.Part.meaning part.old) first count }
+    ensures looked { LookedBy P.Part (bytes_on write.entry.address write.entry.bytes.now first count) part.old part.new }
+    ensures bound { UpTo count result.cost × UpTo count result.presets }
     ensures kept { P.Part.intact part.old → result.cost ≡ kept_from (P.Part.meaning part.old) write.entry.address write.entry.bytes.now first count }
     ensures presets { P.Part.intact part.old → result.presets ≡ on_from (P.Part.meaning part.old) write.entry.address write.entry.bytes.now first count }
 {
@@ -115,11 +110,10 @@ pub(crate) fn erase_costs<P: Part>(
     limit: Cost,
 ) -> Option<Cost>
     requires fitting { Fitting (P.Part.meaning part.old) write.address write.bytes.now }
-    requires count_bound { first + count ≤ (P.Part.meaning part.old).shape.sectors * (P.Part.meaning part.old).shape.pages }
-    requires presets_bound { (presets.0 ≤ 262144) × (presets.1 ≤ 16777216) }
-    ensures looked { LookedBy P.Part.meaning P.Part.trace P.Part.intact (bytes_off write.entry.address write.entry.bytes.now first count) part.old part.new }
-    ensures bound { IfSome result (λ cost. (cost.0 ≤ 1 + presets.0 + count) × (cost.1 ≤ presets.1 + 64 * count)) }
-    ensures apart { let n = bytes_off write.entry.address write.entry.bytes.now first count in IfSome result (λ cost. (64 * cost.0 ≤ 64 + 64 * presets.0 + n) × (cost.1 ≤ presets.1 + n)) }
+    requires count_bound { PagesIn (P.Part.meaning part.old) first count }
+    requires presets_bound { UpTo 262144 presets }
+    ensures looked { LookedBy P.Part (bytes_off write.entry.address write.entry.bytes.now first count) part.old part.new }
+    ensures bound { (n : ℕ) → UpTo n presets → IfSome result (UpTo (1 + n + count)) }
     ensures value { P.Part.intact part.old → presets ≡ on_from (P.Part.meaning part.old) write.entry.address write.entry.bytes.now first count → result ≡ below limit (erased_from (P.Part.meaning part.old) write.entry.address write.entry.bytes.now first count) }
 {
     let mut cost = plus(ERASE, presets);

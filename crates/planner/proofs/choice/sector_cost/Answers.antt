@@ -1,8 +1,9 @@
-use Rattle.std.proofs.Common.{◌≡◌, ℕ, ◌+◌, ◌*◌, ◌<◌, ◌≤◌, Bool, true, false, not, List, sym, ap, ◌∙◌, subst, ap₂, arith}
+use Rattle.std.proofs.Common.{◌≡◌, ℕ, ◌+◌, ◌*◌, ◌<◌, ◌≤◌, Bool, true, false, cond, not, List, sym, ap, ◌∙◌, subst, ap₂, arith}
 use Rattle.memory.proofs.Blocks.{below_end}
 use Rattle.part.specs.Meaning.{Meaning}
 use Rattle.least.specs.Cost.{lesser}
 use Rattle.least.specs.Fewest.{fewest}
+use Rattle.planner.specs.declared.chosen.Pages.TheVariants.{Kept, Erased}
 use Rattle.planner.specs.Looking.{Fitting}
 use Rattle.least.specs.Sectors.{sector_cost}
 use Rattle.planner.specs.Survey.{erased_from, erases, kept, kept_from, on_from, preset}
@@ -34,7 +35,7 @@ erase_costs-requires g c =
       count_bound =
           subst (λ m. k * p + p ≤ m.shape.sectors * m.shape.pages) same
           (inside (g.P.Part.meaning c.args.part.now) k p e c.requires.1);
-      presets_bound = (omega (arith, touched.erased), omega (arith, touched.erased));
+      presets_bound = (omega (arith, touched.bound), omega (arith, touched.bound));
     }
 
 -- the choice, once both costs are known
@@ -67,11 +68,11 @@ returns-in-Some g c =
     (chose_second c.touched_costs-kept.result.cost _ c.in-Some.cost
     (erase.value (touched.looked.keeps h) (touched.presets h ∙ ap (λ n. on_from n a b (k * p) p) (sym touched.looked.same)))) in
     record {
-      looked = looked_join g.P.Part.meaning g.P.Part.trace g.P.Part.intact g.met.P.Part.joins _ _ _ _ _ _ touched.looked erase.looked (omega (arith, on_and_off a b (k * p) p, e));
+      looked = looked_join g.P.Part g.met.P.Part.joins _ _ _ _ _ _ touched.looked erase.looked (omega (arith, on_and_off a b (k * p) p, e));
       bound =
-          let all = on_and_off a b (k * p) p in (omega (arith, erase.apart, touched.apart, all, low, e), omega (arith, erase.apart, touched.apart, all, low, e));
-      presets = (omega (arith, touched.erased), omega (arith, touched.erased));
-      first = λ h. ap (λ (x : Bool × (ℕ × ℕ)). x.0) (both h);
+          let b = erase.bound p touched.bound.1 in
+          ((omega (arith, b, low, e), omega (arith, b, low, e)), (omega (arith, touched.bound, low, e), omega (arith, touched.bound, low, e)));
+      first = λ h. ap (λ (x : Bool × (ℕ × ℕ)). cond x.0 Erased Kept) (both h);
       value = λ h. ap (λ (x : Bool × (ℕ × ℕ)). x.1) (both h);
       touched = λ h. touched.presets h ∙ ap (λ n. on_from m a b (k * n) n) e;
     }
@@ -96,10 +97,9 @@ returns-in-None g c =
     (chose_first c.touched_costs-kept.result.cost _
     (erase.value (touched.looked.keeps h) (touched.presets h ∙ ap (λ n. on_from n a b (k * p) p) (sym touched.looked.same)))) in
     record {
-      looked = looked_join g.P.Part.meaning g.P.Part.trace g.P.Part.intact g.met.P.Part.joins _ _ _ _ _ _ touched.looked erase.looked (omega (arith, on_and_off a b (k * p) p, e));
-      bound = (omega (arith, touched.keeping), omega (arith, touched.keeping));
-      presets = (omega (arith, touched.erased), omega (arith, touched.erased));
-      first = λ h. ap (λ (x : Bool × (ℕ × ℕ)). x.0) (both h);
+      looked = looked_join g.P.Part g.met.P.Part.joins _ _ _ _ _ _ touched.looked erase.looked (omega (arith, on_and_off a b (k * p) p, e));
+      bound = ((omega (arith, touched.bound, low, e), omega (arith, touched.bound, low, e)), (omega (arith, touched.bound, low, e), omega (arith, touched.bound, low, e)));
+      first = λ h. ap (λ (x : Bool × (ℕ × ℕ)). cond x.0 Erased Kept) (both h);
       value = λ h. ap (λ (x : Bool × (ℕ × ℕ)). x.1) (both h);
       touched = λ h. touched.presets h ∙ ap (λ n. on_from m a b (k * n) n) e;
     }

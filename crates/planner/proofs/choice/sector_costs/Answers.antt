@@ -1,9 +1,11 @@
-use Rattle.std.proofs.Common.{◌≡◌, ℕ, ◌+◌, ◌<◌, Bool, false, List, length, get_or, set, sym, refl, ap, ◌∙◌, ap₂, ⊎_elim, arith, get_or-set_other, get_or-set_same}
+use Rattle.std.proofs.Common.{◌≡◌, ℕ, ◌+◌, ◌<◌, List, length, get_or, set, sym, refl, ap, ◌∙◌, ap₂, ⊎_elim, arith, get_or-set_other, get_or-set_same}
 use Rattle.std.proofs.lemmas.Bool.{cases_eq}
 use Rattle.part.specs.Meaning.{Meaning}
+use Rattle.planner.specs.declared.chosen.Pages.{Pages}
+use Rattle.planner.specs.declared.chosen.Pages.TheVariants.{Kept}
 use Rattle.least.specs.Fewest.{fewest}
 use Rattle.least.specs.Sectors.{over_sector, sector_cost}
-use Rattle.planner.specs.Survey.{erases, kept, preset, preset_on}
+use Rattle.planner.specs.Survey.{kept, preset, preset_on, sector_pages}
 use Rattle.planner.proofs.Askings.{mul_more}
 use Rattle.planner.proofs.Lookings.{looked_none, looked_join}
 use Rattle.planner.proofs.Totals.{parts, sum_more}
@@ -11,19 +13,17 @@ use Rattle.planner.proofs.choice.sector_costs.Goals as goal
 
 -- one more mark
 marked :
-    (marks : List Bool) (f : ℕ → Bool) (k : ℕ) (v : Bool) → k < length marks → v ≡ f k
-    → ((i : ℕ) → i < k → get_or marks i false ≡ f i) → (i : ℕ) → i < k + 1 → get_or (set marks k v) i false ≡ f i
+    (marks : List Pages) (f : ℕ → Pages) (k : ℕ) (v : Pages) → k < length marks → v ≡ f k
+    → ((i : ℕ) → i < k → get_or marks i Kept ≡ f i) → (i : ℕ) → i < k + 1 → get_or (set marks k v) i Kept ≡ f i
 marked marks f k v h e before i l =
-    ⊎_elim (λ t. ap (λ x. get_or (set marks k v) x false) t ∙ (get_or-set_same marks k v false h ∙ (e ∙ ap f (sym t))))
-    (λ d. get_or-set_other marks k i v false d ∙ before i (omega arith)) (cases_eq i k)
+    ⊎_elim (λ t. ap (λ x. get_or (set marks k v) x Kept) t ∙ (get_or-set_same marks k v Kept h ∙ (e ∙ ap f (sym t))))
+    (λ d. get_or-set_other marks k i v Kept d ∙ before i (omega arith)) (cases_eq i k)
 
 pub loop-k-init : goal.loop-k-init
 loop-k-init g c = (
-  looked_none g.P.Part.meaning g.P.Part.trace g.P.Part.intact _ c.args.part.now (g.met.P.Part.stays c.args.part.now),
-  omega arith,
-  omega arith,
-  omega arith,
-  omega arith,
+  looked_none g.P.Part _ c.args.part.now (g.met.P.Part.stays c.args.part.now),
+  (omega arith, omega arith),
+  (omega arith, omega arith),
   λ _. refl,
   λ _ i l. absurd (omega arith),
   λ _. refl,
@@ -40,22 +40,20 @@ loop-k-preserved g c =
     let few = c.requires.0.sound.few in
     let cost = parts _ _ _ c.add_assign.ensures.after.0 in
     let presets = parts _ _ _ c.add_assign.ensures.after.1 in (
-      looked_join g.P.Part.meaning g.P.Part.trace g.P.Part.intact g.met.P.Part.joins _ _ _ _ _ _ inv.0 sector.looked (omega (arith, mul_more k m.shape.pages, ap (λ (x : Meaning). x.shape.pages) inv.0.same)),
-      omega (arith, inv.1, sector.bound, cost.0),
-      omega (arith, inv.2, sector.bound, cost.1),
-      omega (arith, inv.3, sector.presets, presets.0),
-      omega (arith, inv.4, sector.presets, presets.1),
+      looked_join g.P.Part g.met.P.Part.joins _ _ _ _ _ _ inv.0 sector.looked (omega (arith, mul_more k m.shape.pages, ap (λ (x : Meaning). x.shape.pages) inv.0.same)),
+      (omega (arith, inv.1, sector.bound, cost.0), omega (arith, inv.1, sector.bound, cost.1)),
+      (omega (arith, inv.2, sector.bound, presets.0), omega (arith, inv.2, sector.bound, presets.1)),
       λ h.
           c.add_assign.ensures.after.0
-          ∙ ap₂ (λ x y. fewest.plus x y) (inv.5 h)
+          ∙ ap₂ (λ x y. fewest.plus x y) (inv.3 h)
           (sector.value (inv.0.keeps h) ∙ ap (λ x. sector_cost fewest x.shape (kept x a b) (preset x a b) k) inv.0.same)
           ∙ sym (sum_more fewest k (sector_cost fewest m.shape (kept m a b) (preset m a b))),
       λ h.
-          marked c.loop-k.erased (erases m a b) k c.sector_cost-sector.result.erased (omega arith)
-          (sector.first (inv.0.keeps h) ∙ ap (λ x. erases x a b k) inv.0.same) (inv.6 h),
+          marked c.loop-k.marks (sector_pages m a b) k c.sector_cost-sector.result.pages (omega arith)
+          (sector.first (inv.0.keeps h) ∙ ap (λ x. sector_pages x a b k) inv.0.same) (inv.4 h),
       λ h.
           c.add_assign.ensures.after.1
-          ∙ ap₂ (λ x y. fewest.plus x y) (inv.7 h)
+          ∙ ap₂ (λ x y. fewest.plus x y) (inv.5 h)
           (sector.touched (inv.0.keeps h) ∙ ap (λ x. over_sector fewest x.shape (preset_on x a b) k) inv.0.same)
           ∙ sym (sum_more fewest k (over_sector fewest m.shape (preset_on m a b))),
     )

@@ -11,5 +11,5 @@ returns-in-All-clause-sent g c =
 pub returns-in-Sectors-clause-sent : goal.returns-in-Sectors-clause-sent
 returns-in-Sectors-clause-sent g c =
     sent_as _ _ _ _ _ _ (λ h. h.0)
-    (λ h. sectors_are (g.P.Part.meaning c.args.part.now) c.requires.sound c.args.write.address c.args.write.bytes.now c.args.choice.now h.1 c.in-Sectors.erased c.in-Sectors.is)
+    (λ h. sectors_are (g.P.Part.meaning c.args.part.now) c.requires.sound c.args.write.address c.args.write.bytes.now c.args.choice.now h.1 c.in-Sectors.marks c.in-Sectors.is)
     c.put_sectors.ensures.sent

@@ -1,7 +1,6 @@
-use Rattle.std.proofs.Common.{◌*◌, length, sym, ap, ◌∙◌}
+use Rattle.std.proofs.Common.{◌*◌, sym, ap, ◌∙◌}
 use Rattle.planner.specs.Overlay.{overlaid}
 use Rattle.planner.proofs.Lookings.{page-wanted}
-use Rattle.planner.proofs.Overlays.{length-overlaid}
 use Rattle.planner.proofs.look.both_pages.Goals as goal
 
 pub returns : goal.returns
@@ -12,7 +11,6 @@ returns g c =
     let read = c.read_page-old.ensures in
     record {
       looked = read.looked;
-      long = (read.long, ap length c.overlay.ensures ∙ (length-overlaid address bytes (c.args.q * 64) c.read_page-old.result ∙ read.long));
       old = read.bytes;
       new =
           λ h.

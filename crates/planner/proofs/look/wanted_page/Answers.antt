@@ -1,7 +1,7 @@
-use Rattle.std.proofs.Common.{◌*◌, length, replicate, sym, ap, ◌∙◌, arith}
+use Rattle.std.proofs.Common.{◌*◌, replicate, sym, ◌∙◌, arith}
 use Rattle.memory.specs.Page.{page}
 use Rattle.planner.proofs.Lookings.{looked_none, length-here, page-wanted}
-use Rattle.planner.proofs.Overlays.{length-overlaid, overlaid_on}
+use Rattle.planner.proofs.Overlays.{overlaid_on}
 use Rattle.planner.proofs.look.wanted_page.Goals as goal
 
 pub returns : goal.returns
@@ -11,8 +11,7 @@ returns g c =
     let address = c.args.write.address in
     let bytes = c.args.write.bytes.now in
     record {
-      looked = looked_none g.P.Part.meaning g.P.Part.trace g.P.Part.intact _ c.args.part.now (g.met.P.Part.stays c.args.part.now);
-      long = ap length c.overlay.ensures ∙ length-overlaid address bytes (q * 64) (replicate 64 0);
+      looked = looked_none g.P.Part _ c.args.part.now (g.met.P.Part.stays c.args.part.now);
       bytes =
           λ h.
           c.overlay.ensures

@@ -1,13 +1,15 @@
-use Rattle.std.proofs.Common.{◌+◌, ◌%◌, [], ◌∷◌, ◌++◌, get_or, sym, ap, ◌∙◌, rules, arith}
-use Rattle.std.proofs.lemmas.List.{take_more_set}
-use Rattle.planner.proofs.Pages.{bytes_more}
+use Rattle.std.proofs.Common.{◌≡◌, ◌+◌, ◌-◌, length, take, drop, ap, ◌∙◌, arith}
+use Rattle.planner.proofs.Pages.{bytes_copied}
 use Rattle.planner.proofs.sheet.send_bytes.Goals as goal
 
-pub loop-i-preserved : goal.loop-i-preserved
-loop-i-preserved c =
-    let i = c.loop-i.i in
-    let byte = get_or c.args.page.now ((c.args.start + i) % 64) 0 in (
-      take_more_set c.loop-i.data i byte (omega arith)
-          ∙ (ap (λ l. l ++ byte ∷ []) c.loop-i.invariant.0 ∙ sym (bytes_more 64 c.args.page.now c.args.start i)),
-      search rules,
-    )
+pub returns : goal.returns
+returns c =
+    let page = c.args.page.now in
+    let start = c.args.start in
+    let n = c.min-straight.result in
+    let s = c.split_at_mut-front.ensures.back_len in
+    let f : start + n - start ≡ n = omega arith in
+    let r : length c.split_at_mut-front.result.1.now ≡ length c.args.data.now - n = omega arith in
+    bytes_copied 64 page c.copy_from_slice.new.self c.copy_from_slice-2.new.self start (length c.args.data.now) n c.told-page c.requires.0 c.requires.1
+    c.min-straight.ensures (c.copy_from_slice.ensures.after ∙ ap (λ x. take x (drop start page)) f)
+    (c.copy_from_slice-2.ensures.after ∙ ap (λ x. take x page) r)

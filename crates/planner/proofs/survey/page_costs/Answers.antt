@@ -1,4 +1,4 @@
-use Rattle.std.proofs.Common.{ℕ, sym, ◌∙◌, subst, ap₂, arith}
+use Rattle.std.proofs.Common.{sym, ◌∙◌, subst, ap₂, arith}
 use Rattle.std.proofs.lemmas.Bool.{cond-true, cond-false}
 use Rattle.least.specs.Fewest.{fewest}
 use Rattle.least.specs.Window.{window}
@@ -18,10 +18,8 @@ returns-then-not-touches g c =
     let m = g.P.Part.meaning c.args.part.now in
     let off = sym c.if-not-touches.ensures in
     record {
-      looked = looked_none g.P.Part.meaning g.P.Part.trace g.P.Part.intact _ c.args.part.now (g.met.P.Part.stays c.args.part.now);
-      keeping = (omega arith, omega arith);
-      erased = (omega arith, omega arith);
-      apart = (omega arith, omega arith);
+      looked = looked_none g.P.Part _ c.args.part.now (g.met.P.Part.stays c.args.part.now);
+      bound = ((omega arith, omega arith), (omega arith, omega arith));
       kept = λ h. sym (kept_off m c.args.q c.requires.1 c.args.write.address c.args.write.bytes.now c.requires.0 off);
       preset = λ h. sym (cond-false _ _ _ off);
     }
@@ -31,12 +29,8 @@ returns g c =
     let pages = c.both_pages.ensures in
     let touched = sym c.if-not-touches.ensures in
     record {
-      looked = subst (λ n. LookedBy g.P.Part.meaning g.P.Part.trace g.P.Part.intact n c.args.part.now c.both_pages.new.part) (sym (cond-true _ _ _ touched)) pages.looked;
-      keeping = c.page_cost.ensures.bound;
-      erased = c.page_cost-2.ensures.bound;
-      apart =
-          let n = cond-true {A = ℕ} _ 64 0 touched in
-          let b = c.page_cost-2.ensures.bound in (omega (arith, n, b), omega (arith, n, b));
+      looked = subst (λ n. LookedBy g.P.Part n c.args.part.now c.both_pages.new.part) (sym (cond-true _ _ _ touched)) pages.looked;
+      bound = (c.page_cost.ensures.bound, c.page_cost-2.ensures.bound);
       kept = λ h. c.page_cost.ensures.value ∙ ap₂ (λ o n. window_cost fewest (window 64 o n)) (pages.old h) (pages.new h);
       preset =
           λ h.

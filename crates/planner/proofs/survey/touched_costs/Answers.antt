@@ -12,15 +12,11 @@ loop-q-init g c =
     let m = g.P.Part.meaning c.args.part.now in
     let a = c.args.write.address in
     let b = c.args.write.bytes.now in (
-      looked_none g.P.Part.meaning g.P.Part.trace g.P.Part.intact _ c.args.part.now (g.met.P.Part.stays c.args.part.now),
-      omega arith,
-      omega arith,
-      omega arith,
-      omega arith,
+      looked_none g.P.Part _ c.args.part.now (g.met.P.Part.stays c.args.part.now),
+      (omega arith, omega arith),
+      (omega arith, omega arith),
       λ _. sym (ap (kept_from m a b c.args.first) none),
       λ _. sym (ap (on_from m a b c.args.first) none),
-      omega arith,
-      omega arith,
     )
 
 pub loop-q-preserved : goal.loop-q-preserved
@@ -33,19 +29,15 @@ loop-q-preserved g c =
     let q = c.loop-q.q in
     let cost = parts _ _ _ c.add_assign.ensures.after.0 in
     let presets = parts _ _ _ c.add_assign.ensures.after.1 in (
-      looked_join g.P.Part.meaning g.P.Part.trace g.P.Part.intact g.met.P.Part.joins _ _ _ _ _ _ inv.0 page.looked (same_most _ _ (sym (on_next a b c.args.first c.loop-q.q (omega arith)))),
-      omega (arith, inv.1, page.keeping, cost.0),
-      omega (arith, inv.2, page.keeping, cost.1),
-      omega (arith, inv.3, page.erased, presets.0),
-      omega (arith, inv.4, page.erased, presets.1),
+      looked_join g.P.Part g.met.P.Part.joins _ _ _ _ _ _ inv.0 page.looked (same_most _ _ (sym (on_next a b c.args.first c.loop-q.q (omega arith)))),
+      (omega (arith, inv.1, page.bound, cost.0), omega (arith, inv.1, page.bound, cost.1)),
+      (omega (arith, inv.2, page.bound, presets.0), omega (arith, inv.2, page.bound, presets.1)),
       λ h.
           c.add_assign.ensures.after.0
-          ∙ ap₂ (λ x y. fewest.plus x y) (inv.5 h) (page.kept (inv.0.keeps h) ∙ ap (λ x. kept x a b q) inv.0.same)
+          ∙ ap₂ (λ x y. fewest.plus x y) (inv.3 h) (page.kept (inv.0.keeps h) ∙ ap (λ x. kept x a b q) inv.0.same)
           ∙ sym (sum_next fewest (kept m a b) c.args.first q (omega arith)),
       λ h.
           c.add_assign.ensures.after.1
-          ∙ ap₂ (λ x y. fewest.plus x y) (inv.6 h) (page.preset (inv.0.keeps h) ∙ ap (λ x. preset_on x a b q) inv.0.same)
+          ∙ ap₂ (λ x y. fewest.plus x y) (inv.4 h) (page.preset (inv.0.keeps h) ∙ ap (λ x. preset_on x a b q) inv.0.same)
           ∙ sym (sum_next fewest (preset_on m a b) c.args.first q (omega arith)),
-      omega (arith, inv.7, page.apart, presets.0, on_next a b c.args.first c.loop-q.q (omega arith)),
-      omega (arith, inv.8, page.apart, presets.1, on_next a b c.args.first c.loop-q.q (omega arith)),
     )
