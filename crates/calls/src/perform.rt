@@ -11,12 +11,14 @@ use part::part::Part;
 use std::alloc::Global;
 
 // The record of the calls that were made, and the fence as they left it.
+#[derive(Drop)]
 pub struct Performed<P> {
     pub record: Vec<Entry>,
     pub fence: Fence<P>,
 }
 
 // All that was handed in, where there was no memory for the record.
+#[derive(Drop)]
 pub struct Unperformed<P> {
     pub part: P,
     pub calls: Vec<Call>,

@@ -1,7 +1,7 @@
 // Why a run stops short. specs/RunRows.antt gives each case its layer, number and values.
 use part::fault::PartFault;
 
-#[derive(Clone, Copy)]
+#[derive(Clone, Copy, PartialEq, Eq, Debug)]
 pub enum RunFault {
     // not 1 to 4,096
     Limit(usize),
