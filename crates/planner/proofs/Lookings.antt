@@ -5,6 +5,7 @@ use Rattle.std.proofs.lemmas.Bool.{and_cases, cond-true, le-leb, ltb-false}
 use Rattle.memory.specs.Shape.{size}
 use Rattle.memory.specs.Page.{page}
 use Rattle.memory.proofs.Blocks.{below_end, length-block}
+use Rattle.part.specs.declared.part.Part.{Ghosts}
 use Rattle.part.specs.Meaning.{Meaning, Event, Sound, asked, carried, polled, cycles, polls}
 use Rattle.part.specs.Verdict.{read_verdict}
 use Rattle.planner.specs.Overlay.{overlaid}
@@ -29,14 +30,14 @@ asked_join (asked n ∷ l) k = ap (λ x. n + x) (asked_join l k) ∙ sym (add_as
 asked_join (carried c ∷ l) k = asked_join l k
 asked_join (polled ∷ l) k = asked_join l k
 
-module _ {S : Type 0} (meaning : S → Meaning) (trace : S → S → List Event → Type 0) (intact : S → Type 0) where
-  pub looked_none : (n : ℕ) (a : S) → trace a a [] → LookedBy meaning trace intact n a a
+module _ {S : Type 0} (part : Ghosts S) where
+  pub looked_none : (n : ℕ) (a : S) → part.trace a a [] → LookedBy part n a a
   looked_none n a t = record { same = refl; keeps = λ h. h; asked = ([], t, refl, refl, omega arith) }
 
   pub looked_join :
-      ((a b c : S) (l m : List Event) → trace a b l → trace b c m → trace a c (l ++ m)) → (n k r : ℕ) (a b c : S)
-      → LookedBy meaning trace intact n a b → LookedBy meaning trace intact k b c → n + k ≤ r
-      → LookedBy meaning trace intact r a c
+      ((a b c : S) (l m : List Event) → part.trace a b l → part.trace b c m → part.trace a c (l ++ m)) → (n k r : ℕ) (a b c : S)
+      → LookedBy part n a b → LookedBy part k b c → n + k ≤ r
+      → LookedBy part r a c
   looked_join joins n k r a b c p q h =
       let es = p.asked.0 in
       let fs = q.asked.0 in
@@ -54,7 +55,7 @@ module _ {S : Type 0} (meaning : S → Meaning) (trace : S → S → List Event 
 
   -- a look may be said to have asked for more
   pub looked_most :
-      (n r : ℕ) (a b : S) → LookedBy meaning trace intact n a b → n ≤ r → LookedBy meaning trace intact r a b
+      (n r : ℕ) (a b : S) → LookedBy part n a b → n ≤ r → LookedBy part r a b
   looked_most n r a b p h =
       record {
         same = p.same;
@@ -62,19 +63,19 @@ module _ {S : Type 0} (meaning : S → Meaning) (trace : S → S → List Event 
         asked = (p.asked.0, p.asked.1, p.asked.2, p.asked.3, omega (arith, h, p.asked.4));
       }
 
-  pub looked_by : (n : ℕ) (a b : S) → LookedBy meaning trace intact n a b → Looked meaning trace intact a b
+  pub looked_by : (n : ℕ) (a b : S) → LookedBy part n a b → Looked part a b
   looked_by n a b p =
       record { same = p.same; keeps = p.keeps; asked = (p.asked.0, p.asked.1, p.asked.2, p.asked.3) }
 
   -- a read that was done
   pub looked-read :
-      (a b : S) (n : ℕ) (done : Bool) → done ≡ true → meaning b ≡ meaning a → (intact a → intact b)
-      → trace a b (cond done (asked n ∷ []) []) → LookedBy meaning trace intact n a b
+      (a b : S) (n : ℕ) (done : Bool) → done ≡ true → part.meaning b ≡ part.meaning a → (part.intact a → part.intact b)
+      → part.trace a b (cond done (asked n ∷ []) []) → LookedBy part n a b
   looked-read a b n done e s h t =
       record {
         same = s;
         keeps = h;
-        asked = (asked n ∷ [], subst (λ (d : Bool). trace a b (cond d (asked n ∷ []) [])) e t, refl, refl, omega arith);
+        asked = (asked n ∷ [], subst (λ (d : Bool). part.trace a b (cond d (asked n ∷ []) [])) e t, refl, refl, omega arith);
       }
 
 -- a part has at most 262,144 pages, 16 MiB

@@ -2,15 +2,16 @@
 use Rattle.std.specs.Prelude.{◌≡◌, ℕ, ◌+◌, ◌*◌, ◌<◌, ◌≤◌, Bool, true, ◌&&◌, List, [], ◌∷◌, length, nat_lt}
 use Rattle.memory.specs.Shape.{size}
 use Rattle.memory.specs.Page.{put}
+use Rattle.part.specs.declared.part.Part.{Ghosts}
 use Rattle.part.specs.Meaning.{Meaning, Event, Sound, asked, carried, polled, cycles, polls}
 use Rattle.part.specs.Verdict.{idle}
 
 -- from one state of a part to another nothing altered, and no cycle and no poll was among the events
-pub record Looked {S : Type 0} (meaning : S → Meaning) (trace : S → S → List Event → Type 0) (intact : S → Type 0) (a b : S)
+pub record Looked {S : Type 0} (part : Ghosts S) (a b : S)
     : Type 0 where
-  pub same : meaning b ≡ meaning a
-  pub keeps : intact a → intact b
-  pub asked : (es : List Event) × trace a b es × (cycles es ≡ []) × (polls es ≡ 0)
+  pub same : part.meaning b ≡ part.meaning a
+  pub keeps : part.intact a → part.intact b
+  pub asked : (es : List Event) × part.trace a b es × (cycles es ≡ []) × (polls es ≡ 0)
 
 -- how many bytes were asked for
 abbrev pub asked_bytes : List Event → ℕ
@@ -20,12 +21,12 @@ asked_bytes (carried c ∷ es) = asked_bytes es
 asked_bytes (polled ∷ es) = asked_bytes es
 
 -- such a look, for which no more than n bytes were asked
-pub record LookedBy {S : Type 0} (meaning : S → Meaning) (trace : S → S → List Event → Type 0) (intact : S → Type 0) (n : ℕ)
+pub record LookedBy {S : Type 0} (part : Ghosts S) (n : ℕ)
     (a b : S)
     : Type 0 where
-  pub same : meaning b ≡ meaning a
-  pub keeps : intact a → intact b
-  pub asked : (es : List Event) × trace a b es × (cycles es ≡ []) × (polls es ≡ 0) × (asked_bytes es ≤ n)
+  pub same : part.meaning b ≡ part.meaning a
+  pub keeps : part.intact a → part.intact b
+  pub asked : (es : List Event) × part.trace a b es × (cycles es ≡ []) × (polls es ≡ 0) × (asked_bytes es ≤ n)
 
 -- bytes that lie inside an idle memory
 pub record Fitting (m : Meaning) (address : ℕ) (bytes : List ℕ) : Type 0 where

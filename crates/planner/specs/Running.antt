@@ -6,6 +6,7 @@ use Rattle.memory.specs.Page.{block}
 use Rattle.memory.specs.Cycle.{Cycle, Goes, accepts, effect}
 use Rattle.part.specs.declared.fault.PartFault.{PartFault}
 use Rattle.part.specs.declared.fault.PartFault.TheVariants.{Outside, PageData}
+use Rattle.part.specs.declared.part.Part.{Ghosts}
 use Rattle.part.specs.Meaning.{Meaning, Event, carried, cycles, protected_at}
 use Rattle.part.specs.Verdict.{check, inside, clean_at, verdict_if}
 use Rattle.least.specs.declared.step.Step.{Step}
@@ -48,59 +49,59 @@ sent_before (Err (StillBusy polls)) = 0
 sent_before (Err (Refused step fault)) = step
 sent_before (Err (Abandoned n)) = n
 
-module _ {P : Type 0} (meaning : P → Meaning) (trace : P → P → List Event → Type 0) (intact : P → Type 0) (sent : List ℕ) where
+module _ {P : Type 0} (part : Ghosts P) (sent : List ℕ) where
   -- the step's cycle, and nothing else, led from one state of a part to another
   pub record Carries (s : Step) (from to : P) : Type 0 where
-    pub event : trace from to (carried (step_cycle sent s) ∷ [])
-    pub shape : (meaning to).shape ≡ (meaning from).shape
-    pub guarded : (meaning to).guarded ≡ (meaning from).guarded
-    pub due : 1 ≤ (meaning to).due
-    pub accepted : intact from → accepts (meaning from).shape (protected_at (meaning from)) (step_cycle sent s) (meaning from).image ≡ true
-    pub image : intact from → (meaning to).image ≡ effect (meaning from).shape (step_cycle sent s) (meaning from).image
-    pub keeps : intact from → intact to
+    pub event : part.trace from to (carried (step_cycle sent s) ∷ [])
+    pub shape : (part.meaning to).shape ≡ (part.meaning from).shape
+    pub guarded : (part.meaning to).guarded ≡ (part.meaning from).guarded
+    pub due : 1 ≤ (part.meaning to).due
+    pub accepted : part.intact from → accepts (part.meaning from).shape (protected_at (part.meaning from)) (step_cycle sent s) (part.meaning from).image ≡ true
+    pub image : part.intact from → (part.meaning to).image ≡ effect (part.meaning from).shape (step_cycle sent s) (part.meaning from).image
+    pub keeps : part.intact from → part.intact to
 
   -- the step is refused, and nothing alters
   pub record Refuses (s : Step) (fault : PartFault) (from to : P) : Type 0 where
-    pub event : trace from to []
-    pub same : meaning to ≡ meaning from
+    pub event : part.trace from to []
+    pub same : part.meaning to ≡ part.meaning from
     -- whatever a preset's page holds
-    pub cause : step_verdict_if (meaning from) false sent s ≡ Some fault
-    pub verdict : intact from → step_verdict (meaning from) sent s ≡ Some fault
-    pub keeps : intact from → intact to
+    pub cause : step_verdict_if (part.meaning from) false sent s ≡ Some fault
+    pub verdict : part.intact from → step_verdict (part.meaning from) sent s ≡ Some fault
+    pub keeps : part.intact from → part.intact to
 
   -- steps sent in their order, each waited for by as many polls as were due, which the limit allowed
   pub data Sends (limit : ℕ) : P → List Step → P → Type 0 where
     none : {a : P} → Sends limit a [] a
     more : {a b c d : P} {l : List Step} {s : Step}
-        → Sends limit a l b → (meaning b).due ≡ 0 → Carries s b c → (meaning c).due ≤ limit → Polls meaning trace intact (meaning c).due c d
+        → Sends limit a l b → (part.meaning b).due ≡ 0 → Carries s b c → (part.meaning c).due ≤ limit → Polls part (part.meaning c).due c d
         → Sends limit a (l ++ s ∷ []) d
 
   -- what a run of steps did, by its answer
   pub data Ran (limit : ℕ) (steps : List Step) (from to : P) : Result ℕ RunFault → Type 0 where
     no_limit : allowed limit ≡ false → to ≡ from → Ran limit steps from to (Err (Limit limit))
     -- the limit's polls were made, and more were due
-    still-busy : allowed limit ≡ true → limit < (meaning from).due → Polls meaning trace intact limit from to
+    still-busy : allowed limit ≡ true → limit < (part.meaning from).due → Polls part limit from to
         → Ran limit steps from to (Err (StillBusy limit))
     -- else what was due was waited for; then all steps were sent
-    ran : {a : P} → allowed limit ≡ true → (meaning from).due ≤ limit → Polls meaning trace intact (meaning from).due from a
+    ran : {a : P} → allowed limit ≡ true → (part.meaning from).due ≤ limit → Polls part (part.meaning from).due from a
         → Sends limit a steps to → Ran limit steps from to (Ok (length steps))
     -- or all up to one that was refused
-    refused : {a b : P} → allowed limit ≡ true → (meaning from).due ≤ limit → Polls meaning trace intact (meaning from).due from a
+    refused : {a b : P} → allowed limit ≡ true → (part.meaning from).due ≤ limit → Polls part (part.meaning from).due from a
         → (k : ℕ) (s : Step) (fault : PartFault) → k < length steps → take (k + 1) steps ≡ take k steps ++ s ∷ []
-        → Sends limit a (take k steps) b → (meaning b).due ≡ 0 → Refuses s fault b to → Ran limit steps from to (Err (Refused k fault))
+        → Sends limit a (take k steps) b → (part.meaning b).due ≡ 0 → Refuses s fault b to → Ran limit steps from to (Err (Refused k fault))
     -- or all up to one after which more polls were due than the limit's, which were made
-    abandoned : {a b c : P} → allowed limit ≡ true → (meaning from).due ≤ limit → Polls meaning trace intact (meaning from).due from a
+    abandoned : {a b c : P} → allowed limit ≡ true → (part.meaning from).due ≤ limit → Polls part (part.meaning from).due from a
         → (k : ℕ) (s : Step) → k < length steps → take (k + 1) steps ≡ take k steps ++ s ∷ []
-        → Sends limit a (take k steps) b → (meaning b).due ≡ 0 → Carries s b c → limit < (meaning c).due → Polls meaning trace intact limit c to
+        → Sends limit a (take k steps) b → (part.meaning b).due ≡ 0 → Carries s b c → limit < (part.meaning c).due → Polls part limit c to
         → Ran limit steps from to (Err (Abandoned (k + 1)))
 
   -- exactly these cycles led from one state of a part to another, each accepted as the part then stood; beside them
   -- only polls and reads
   pub record Did (ys : List Cycle) (from to : P) : Type 0 where
     pub events : List Event
-    pub happened : trace from to events
+    pub happened : part.trace from to events
     pub exactly : cycles events ≡ ys
-    pub shape : (meaning to).shape ≡ (meaning from).shape
-    pub guarded : (meaning to).guarded ≡ (meaning from).guarded
-    pub goes : intact from → Goes (meaning from).shape (protected_at (meaning from)) (meaning from).image ys (meaning to).image
-    pub keeps : intact from → intact to
+    pub shape : (part.meaning to).shape ≡ (part.meaning from).shape
+    pub guarded : (part.meaning to).guarded ≡ (part.meaning from).guarded
+    pub goes : part.intact from → Goes (part.meaning from).shape (protected_at (part.meaning from)) (part.meaning from).image ys (part.meaning to).image
+    pub keeps : part.intact from → part.intact to

@@ -26,7 +26,7 @@ struct Sector {
 
 fn sector_cost<P: Part>(part: &mut P, write: Write<'_>, k: usize) -> Sector
     requires { Fitting (P.Part.meaning part.old) write.address write.bytes.now × (k < (P.Part.meaning part.old).shape.sectors) }
-    ensures looked { LookedBy P.Part.meaning P.Part.trace P.Part.intact (64 * (P.Part.meaning part.old).shape.pages) part.old part.new }
+    ensures looked { LookedBy P.Part (64 * (P.Part.meaning part.old).shape.pages) part.old part.new }
     ensures bound { (result.costs.cost.0 ≤ 2049) × (result.costs.cost.1 ≤ 131072) }
     ensures presets { (result.costs.presets.0 ≤ 2048) × (result.costs.presets.1 ≤ 131072) }
     ensures first { P.Part.intact part.old → result.erased ≡ erases (P.Part.meaning part.old) write.entry.address write.entry.bytes.now k }
@@ -54,7 +54,7 @@ fn sector_cost<P: Part>(part: &mut P, write: Write<'_>, k: usize) -> Sector
 // What the sectors cost together, and the presets of all touched pages. Marks the sectors that are erased first.
 fn sector_costs<P: Part>(part: &mut P, write: Write<'_>, erased: &mut [bool]) -> Costs
     requires { Fitting (P.Part.meaning part.old) write.address write.bytes.now × (length erased.old ≡ (P.Part.meaning part.old).shape.sectors) }
-    ensures looked { LookedBy P.Part.meaning P.Part.trace P.Part.intact (whole (P.Part.meaning part.old)) part.old part.new }
+    ensures looked { LookedBy P.Part (whole (P.Part.meaning part.old)) part.old part.new }
     ensures bound { (result.presets.0 ≤ 262144) × (result.presets.1 ≤ 16777216) }
     ensures value { P.Part.intact part.old → result.cost ≡ by_sectors (P.Part.meaning part.old) write.entry.address write.entry.bytes.now }
     ensures touched { P.Part.intact part.old → result.presets ≡ on_all (P.Part.meaning part.old) write.entry.address write.entry.bytes.now }
@@ -79,7 +79,7 @@ fn is_free<P: Part>(part: &P) -> bool
 fn bulk_cost<P: Part>(part: &mut P, write: Write<'_>, presets: Cost, limit: Cost) -> Option<Cost>
     requires fitting { Fitting (P.Part.meaning part.old) write.address write.bytes.now }
     requires presets_bound { (presets.0 ≤ 262144) × (presets.1 ≤ 16777216) }
-    ensures looked { LookedBy P.Part.meaning P.Part.trace P.Part.intact (for_bulk (P.Part.meaning part.old)) part.old part.new }
+    ensures looked { LookedBy P.Part (for_bulk (P.Part.meaning part.old)) part.old part.new }
     ensures value { P.Part.intact part.old → presets ≡ on_all (P.Part.meaning part.old) write.entry.address write.entry.bytes.now → result ≡ (if free (protected_at (P.Part.meaning part.old)) (P.Part.meaning part.old).shape.sectors then below limit (bulk_cost fewest (P.Part.meaning part.old).shape (preset (P.Part.meaning part.old) write.entry.address write.entry.bytes.now)) else None) }
 {
     if !is_free(part) {
@@ -91,7 +91,7 @@ fn bulk_cost<P: Part>(part: &mut P, write: Write<'_>, presets: Cost, limit: Cost
 
 pub(crate) fn choose<P: Part>(part: &mut P, write: Write<'_>) -> Choice
     requires { Fitting (P.Part.meaning part.old) write.address write.bytes.now }
-    ensures looked { LookedBy P.Part.meaning P.Part.trace P.Part.intact (whole (P.Part.meaning part.old) + for_bulk (P.Part.meaning part.old)) part.old part.new }
+    ensures looked { LookedBy P.Part (whole (P.Part.meaning part.old) + for_bulk (P.Part.meaning part.old)) part.old part.new }
     ensures value { P.Part.intact part.old → Chosen (P.Part.meaning part.old) write.entry.address write.entry.bytes.now result }
 {
     let mut erased = [false; MOST_SECTORS];

@@ -42,7 +42,7 @@ fn kept_kind(old: &[u8], new: &[u8]) -> Kind
 // the write does not cover it.
 fn put_page<P: Part>(part: &mut P, write: Write<'_>, pages: Pages, q: usize, sheet: &mut Sheet<'_>)
     requires { Fitting (P.Part.meaning part.old) write.address write.bytes.now × Readable (P.Part.meaning part.old) q }
-    ensures looked { LookedBy P.Part.meaning P.Part.trace P.Part.intact 64 part.old part.new }
+    ensures looked { LookedBy P.Part 64 part.old part.new }
     ensures sent { Sent (P.Part.intact part.old) (page_list (P.Part.meaning part.old) write.entry.address write.entry.bytes.now pages q) sheet.old sheet.new }
 {
     if sheet.is_full() {
@@ -74,7 +74,7 @@ fn put_pages<P: Part>(
 )
     requires fitting { Fitting (P.Part.meaning part.old) write.address write.bytes.now }
     requires count_bound { first + count ≤ (P.Part.meaning part.old).shape.sectors * (P.Part.meaning part.old).shape.pages }
-    ensures looked { LookedBy P.Part.meaning P.Part.trace P.Part.intact (64 * count) part.old part.new }
+    ensures looked { LookedBy P.Part (64 * count) part.old part.new }
     ensures sent { Sent (P.Part.intact part.old) (pages_list (P.Part.meaning part.old) write.entry.address write.entry.bytes.now pages first count) sheet.old sheet.new }
 {
     for q in first..first + count {
@@ -91,7 +91,7 @@ fn put_sector<P: Part>(
     sheet: &mut Sheet<'_>,
 )
     requires { Fitting (P.Part.meaning part.old) write.address write.bytes.now × (k < (P.Part.meaning part.old).shape.sectors) }
-    ensures looked { LookedBy P.Part.meaning P.Part.trace P.Part.intact (64 * (P.Part.meaning part.old).shape.pages) part.old part.new }
+    ensures looked { LookedBy P.Part (64 * (P.Part.meaning part.old).shape.pages) part.old part.new }
     ensures sent { Sent (P.Part.intact part.old) (sector_list (P.Part.meaning part.old) write.entry.address write.entry.bytes.now erased k) sheet.old sheet.new }
 {
     let count = part.pages();
@@ -106,7 +106,7 @@ fn put_sector<P: Part>(
 // The sectors, those that are marked erased first.
 fn put_sectors<P: Part>(part: &mut P, write: Write<'_>, marks: &[bool], sheet: &mut Sheet<'_>)
     requires { Fitting (P.Part.meaning part.old) write.address write.bytes.now × (length marks.now ≡ 128) }
-    ensures looked { LookedBy P.Part.meaning P.Part.trace P.Part.intact (whole (P.Part.meaning part.old)) part.old part.new }
+    ensures looked { LookedBy P.Part (whole (P.Part.meaning part.old)) part.old part.new }
     ensures sent { Sent (P.Part.intact part.old) (sectors_list (P.Part.meaning part.old) write.entry.address write.entry.bytes.now marks.now) sheet.old sheet.new }
 {
     let sectors = part.sectors();
@@ -118,7 +118,7 @@ fn put_sectors<P: Part>(part: &mut P, write: Write<'_>, marks: &[bool], sheet: &
 // All, erased first.
 fn put_bulk<P: Part>(part: &mut P, write: Write<'_>, sheet: &mut Sheet<'_>)
     requires { Fitting (P.Part.meaning part.old) write.address write.bytes.now }
-    ensures looked { LookedBy P.Part.meaning P.Part.trace P.Part.intact (whole (P.Part.meaning part.old)) part.old part.new }
+    ensures looked { LookedBy P.Part (whole (P.Part.meaning part.old)) part.old part.new }
     ensures sent { Sent (P.Part.intact part.old) (bulk_list (P.Part.meaning part.old) write.entry.address write.entry.bytes.now) sheet.old sheet.new }
 {
     let count = part.sectors() * part.pages();
@@ -129,7 +129,7 @@ fn put_bulk<P: Part>(part: &mut P, write: Write<'_>, sheet: &mut Sheet<'_>)
 // A choice.
 fn put_choice<P: Part>(part: &mut P, write: Write<'_>, choice: &Choice, sheet: &mut Sheet<'_>)
     requires { Fitting (P.Part.meaning part.old) write.address write.bytes.now }
-    ensures looked { LookedBy P.Part.meaning P.Part.trace P.Part.intact (whole (P.Part.meaning part.old)) part.old part.new }
+    ensures looked { LookedBy P.Part (whole (P.Part.meaning part.old)) part.old part.new }
     ensures sent { Sent (P.Part.intact part.old × Chosen (P.Part.meaning part.old) write.entry.address write.entry.bytes.now choice.now) (plan_list (P.Part.meaning part.old) write.entry.address write.entry.bytes.now) sheet.old sheet.new }
 {
     match &choice.erasure {
@@ -147,7 +147,7 @@ pub(crate) fn put_plan<P: Part>(
     data: &mut [u8],
 )
     requires { Fitting (P.Part.meaning part.old) write.address write.bytes.now }
-    ensures looked { LookedBy P.Part.meaning P.Part.trace P.Part.intact (whole (P.Part.meaning part.old)) part.old part.new }
+    ensures looked { LookedBy P.Part (whole (P.Part.meaning part.old)) part.old part.new }
     ensures laid { P.Part.intact part.old → Chosen (P.Part.meaning part.old) write.entry.address write.entry.bytes.now choice.now → Laid (plan_list (P.Part.meaning part.old) write.entry.address write.entry.bytes.now) steps.old steps.new «data».old «data».new }
 {
     let mut sheet = Sheet::new(steps, data);

@@ -13,7 +13,7 @@ pub type Page = [u8; PAGE_BYTES];
 // The bytes of page q as they stand.
 pub(crate) fn read_page<P: Part>(part: &mut P, q: usize) -> Page
     requires { Readable (P.Part.meaning part.old) q }
-    ensures looked { LookedBy P.Part.meaning P.Part.trace P.Part.intact 64 part.old part.new }
+    ensures looked { LookedBy P.Part 64 part.old part.new }
     ensures long { length result ≡ 64 }
     ensures bytes { P.Part.intact part.old → result ≡ page 64 q (P.Part.meaning part.old).image }
 {
@@ -42,7 +42,7 @@ pub(crate) fn touches(write: Write<'_>, q: usize) -> bool
 // an `ensures` in each function that it still holds the same reference, which is no plainer.
 pub(crate) fn both_pages<P: Part>(part: &mut P, write: Write<'_>, q: usize) -> (Page, Page)
     requires { Fitting (P.Part.meaning part.old) write.address write.bytes.now × Readable (P.Part.meaning part.old) q }
-    ensures looked { LookedBy P.Part.meaning P.Part.trace P.Part.intact 64 part.old part.new }
+    ensures looked { LookedBy P.Part 64 part.old part.new }
     ensures long { (length result.0 ≡ 64) × (length result.1 ≡ 64) }
     ensures old { P.Part.intact part.old → result.0 ≡ page 64 q (P.Part.meaning part.old).image }
     ensures new { P.Part.intact part.old → result.1 ≡ page 64 q (wanted (P.Part.meaning part.old) write.entry.address write.entry.bytes.now) }
@@ -56,7 +56,7 @@ pub(crate) fn both_pages<P: Part>(part: &mut P, write: Write<'_>, q: usize) -> (
 // Page q as a write wants it. A page that the write covers is not read.
 pub(crate) fn wanted_page<P: Part>(part: &mut P, write: Write<'_>, q: usize) -> Page
     requires { Fitting (P.Part.meaning part.old) write.address write.bytes.now × Readable (P.Part.meaning part.old) q }
-    ensures looked { LookedBy P.Part.meaning P.Part.trace P.Part.intact 64 part.old part.new }
+    ensures looked { LookedBy P.Part 64 part.old part.new }
     ensures long { length result ≡ 64 }
     ensures bytes { P.Part.intact part.old → result ≡ page 64 q (wanted (P.Part.meaning part.old) write.entry.address write.entry.bytes.now) }
 {

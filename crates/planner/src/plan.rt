@@ -26,7 +26,7 @@ fn plan_inside<P: Part>(
 ) -> Result<Cost, PlanFault>
     requires fitting { Fitting (P.Part.meaning part.old) write.address write.bytes.now }
     requires byte { (i : ℕ) → slice_index write.bytes.now i < 256 }
-    ensures looked { LookedBy P.Part.meaning P.Part.trace P.Part.intact (3 * whole (P.Part.meaning part.old)) part.old part.new }
+    ensures looked { LookedBy P.Part (3 * whole (P.Part.meaning part.old)) part.old part.new }
     ensures unplanned { is_ok result ≡ false → (steps.new ≡ steps.old) × («data».new ≡ «data».old) }
     ensures room { IfOk result (λ cost. (cost.0 ≤ length steps.old) × (cost.1 ≤ length «data».old)) }
     ensures rest { IfOk result (λ cost. (drop cost.0 steps.new ≡ drop cost.0 steps.old) × (drop cost.1 «data».new ≡ drop cost.1 «data».old)) }
@@ -63,8 +63,8 @@ pub fn plan<P: Part>(
     steps: &mut [Step],
     data: &mut [u8],
 ) -> Result<Cost, PlanFault>
-    ensures looked { Looked P.Part.meaning P.Part.trace P.Part.intact part.old part.new }
-    ensures asked { LookedBy P.Part.meaning P.Part.trace P.Part.intact (3 * size (P.Part.meaning part.old).shape) part.old part.new }
+    ensures looked { Looked P.Part part.old part.new }
+    ensures asked { LookedBy P.Part (3 * size (P.Part.meaning part.old).shape) part.old part.new }
     ensures outside { nat_le (address + length bytes.now) (size (P.Part.meaning part.old).shape) ≡ false → result ≡ Err (Outside address) }
     ensures busy { nat_le (address + length bytes.now) (size (P.Part.meaning part.old).shape) ≡ true → idle (P.Part.meaning part.old) ≡ false → result ≡ Err Busy }
     ensures unplanned { is_ok result ≡ false → (steps.new ≡ steps.old) × («data».new ≡ «data».old) }

@@ -19,8 +19,8 @@ pub fn run<P: Part>(
     data: &[u8],
     limit: usize,
 ) -> Result<usize, RunFault>
-    ensures ran { Ran P.Part.meaning P.Part.trace P.Part.intact «data».now limit steps.now part.old part.new result }
-    ensures did { Did P.Part.meaning P.Part.trace P.Part.intact «data».now (cycles_of «data».now (take (sent_before result) steps.now)) part.old part.new }
+    ensures ran { Ran P.Part «data».now limit steps.now part.old part.new result }
+    ensures did { Did P.Part «data».now (cycles_of «data».now (take (sent_before result) steps.now)) part.old part.new }
 {
     if !is_limit(limit) {
         return Err(RunFault::Limit(limit));

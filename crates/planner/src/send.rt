@@ -28,8 +28,8 @@ fn sent_by<'a>(step: &Step, data: &'a [u8]) -> Option<&'a [u8]>
 // Sends one step to a part with nothing due.
 pub fn send<P: Part>(part: &mut P, step: &Step, data: &[u8]) -> Result<(), PartFault>
     ensures { (P.Part.meaning part.old).due ≡ 0 → MatchResult result
-        (λ _. Carries P.Part.meaning P.Part.trace P.Part.intact «data».now step.now part.old part.new)
-        (λ f. Refuses P.Part.meaning P.Part.trace P.Part.intact «data».now step.now f part.old part.new) }
+        (λ _. Carries P.Part «data».now step.now part.old part.new)
+        (λ f. Refuses P.Part «data».now step.now f part.old part.new) }
 {
     let Some(sent) = sent_by(step, data) else {
         if step.address >= size_of(part) {

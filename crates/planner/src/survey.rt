@@ -49,7 +49,7 @@ impl AddAssign for Costs {
 // Page q as it stands, and once erased if the write touches it: a page that it does not touch costs nothing to keep.
 fn page_costs<P: Part>(part: &mut P, write: Write<'_>, q: usize) -> Costs
     requires { Fitting (P.Part.meaning part.old) write.address write.bytes.now × Readable (P.Part.meaning part.old) q }
-    ensures looked { LookedBy P.Part.meaning P.Part.trace P.Part.intact (if touched write.entry.address write.entry.bytes.now q then 64 else 0) part.old part.new }
+    ensures looked { LookedBy P.Part (if touched write.entry.address write.entry.bytes.now q then 64 else 0) part.old part.new }
     ensures keeping { (result.cost.0 ≤ 1) × (result.cost.1 ≤ 64) }
     ensures erased { (result.presets.0 ≤ 1) × (result.presets.1 ≤ 64) }
     ensures apart { let n = if touched write.entry.address write.entry.bytes.now q then 64 else 0 in (64 * result.presets.0 ≤ n) × (result.presets.1 ≤ n) }
@@ -69,7 +69,7 @@ fn page_costs<P: Part>(part: &mut P, write: Write<'_>, q: usize) -> Costs
 // Page q once erased, if the write does not touch it.
 fn rest_cost<P: Part>(part: &mut P, write: Write<'_>, q: usize) -> Cost
     requires { Fitting (P.Part.meaning part.old) write.address write.bytes.now × Readable (P.Part.meaning part.old) q }
-    ensures looked { LookedBy P.Part.meaning P.Part.trace P.Part.intact (if touched write.entry.address write.entry.bytes.now q then 0 else 64) part.old part.new }
+    ensures looked { LookedBy P.Part (if touched write.entry.address write.entry.bytes.now q then 0 else 64) part.old part.new }
     ensures bound { (result.0 ≤ 1) × (result.1 ≤ 64) }
     ensures apart { let n = if touched write.entry.address write.entry.bytes.now q then 0 else 64 in (64 * result.0 ≤ n) × (result.1 ≤ n) }
     ensures value { P.Part.intact part.old → result ≡ preset_off (P.Part.meaning part.old) write.entry.address write.entry.bytes.now q }
@@ -90,7 +90,7 @@ pub(crate) fn touched_costs<P: Part>(
 ) -> Costs
     requires fitting { Fitting (P.Part.meaning part.old) write.address write.bytes.now }
     requires count_bound { first + count ≤ (P.Part.meaning part.old).shape.sectors * (P.Part.meaning part.old).shape.pages }
-    ensures looked { LookedBy P.Part.meaning P.Part.trace P.Part.intact (bytes_on write.entry.address write.entry.bytes.now first count) part.old part.new }
+    ensures looked { LookedBy P.Part (bytes_on write.entry.address write.entry.bytes.now first count) part.old part.new }
     ensures keeping { (result.cost.0 ≤ count) × (result.cost.1 ≤ 64 * count) }
     ensures erased { (result.presets.0 ≤ count) × (result.presets.1 ≤ 64 * count) }
     ensures apart { let n = bytes_on write.entry.address write.entry.bytes.now first count in (64 * result.presets.0 ≤ n) × (result.presets.1 ≤ n) }
@@ -117,7 +117,7 @@ pub(crate) fn erase_costs<P: Part>(
     requires fitting { Fitting (P.Part.meaning part.old) write.address write.bytes.now }
     requires count_bound { first + count ≤ (P.Part.meaning part.old).shape.sectors * (P.Part.meaning part.old).shape.pages }
     requires presets_bound { (presets.0 ≤ 262144) × (presets.1 ≤ 16777216) }
-    ensures looked { LookedBy P.Part.meaning P.Part.trace P.Part.intact (bytes_off write.entry.address write.entry.bytes.now first count) part.old part.new }
+    ensures looked { LookedBy P.Part (bytes_off write.entry.address write.entry.bytes.now first count) part.old part.new }
     ensures bound { IfSome result (λ cost. (cost.0 ≤ 1 + presets.0 + count) × (cost.1 ≤ presets.1 + 64 * count)) }
     ensures apart { let n = bytes_off write.entry.address write.entry.bytes.now first count in IfSome result (λ cost. (64 * cost.0 ≤ 64 + 64 * presets.0 + n) × (cost.1 ≤ presets.1 + n)) }
     ensures value { P.Part.intact part.old → presets ≡ on_from (P.Part.meaning part.old) write.entry.address write.entry.bytes.now first count → result ≡ below limit (erased_from (P.Part.meaning part.old) write.entry.address write.entry.bytes.now first count) }

@@ -17,7 +17,7 @@ returns-then-not-touches g c =
     let b = c.args.write.bytes.now in
     let q = c.args.q in
     record {
-      looked = looked_none g.P.Part.meaning g.P.Part.trace g.P.Part.intact _ c.args.part.now (g.met.P.Part.stays c.args.part.now);
+      looked = looked_none g.P.Part _ c.args.part.now (g.met.P.Part.stays c.args.part.now);
       value =
           λ h.
           first_of q m.image (wanted m a b) (page 64 q m.image) (page 64 q m.image) 64 None refl

@@ -8,7 +8,7 @@ use Rattle.planner.proofs.barred.change_in.Goals as goal
 
 pub loop-q-init : goal.loop-q-init
 loop-q-init g c = (
-  looked_none g.P.Part.meaning g.P.Part.trace g.P.Part.intact _ c.args.part.now (g.met.P.Part.stays c.args.part.now),
+  looked_none g.P.Part _ c.args.part.now (g.met.P.Part.stays c.args.part.now),
   λ _ a l u. absurd (omega arith),
 )
 
@@ -21,7 +21,7 @@ returns-in-Some g c =
     let b = c.args.write.bytes.now in
     let q = c.loop-q.q in
     record {
-      looked = looked_join g.P.Part.meaning g.P.Part.trace g.P.Part.intact g.met.P.Part.joins _ _ _ _ _ _ inv.0 page.looked (omega arith);
+      looked = looked_join g.P.Part g.met.P.Part.joins _ _ _ _ _ _ inv.0 page.looked (omega arith);
       value =
           λ h.
           first_later (c.args.first * 64) (q * 64) (q * 64 + 64) ((c.args.first + c.args.count) * 64) m.image (wanted m a b) c.in-Some.place (omega arith) (omega arith) (inv.1 h)
@@ -36,7 +36,7 @@ loop-q-preserved g c =
     let a = c.args.write.address in
     let b = c.args.write.bytes.now in
     let q = c.loop-q.q in (
-      looked_join g.P.Part.meaning g.P.Part.trace g.P.Part.intact g.met.P.Part.joins _ _ _ _ _ _ inv.0 page.looked (omega arith),
+      looked_join g.P.Part g.met.P.Part.joins _ _ _ _ _ _ inv.0 page.looked (omega arith),
       λ h.
           first_more (c.args.first * 64) (q * 64) (q * 64 + 64) ((q + 1) * 64) m.image (wanted m a b) (omega arith) (inv.1 h)
           (subst (λ (x : Meaning). FirstIn (q * 64) (q * 64 + 64) x.image (wanted x a b) None) inv.0.same (page.value (inv.0.keeps h))),

@@ -14,7 +14,7 @@ use Rattle.planner.proofs.barred.lowest_barred.Goals.{then-protects+in_default, 
 
 pub loop-k-init : goal.loop-k-init
 loop-k-init g c = (
-  looked_none g.P.Part.meaning g.P.Part.trace g.P.Part.intact _ c.args.part.now (g.met.P.Part.stays c.args.part.now),
+  looked_none g.P.Part _ c.args.part.now (g.met.P.Part.stays c.args.part.now),
   λ _ a l b. omega (arith, zero-mul c.pages-pages.result),
 )
 
@@ -50,7 +50,7 @@ returns-in-Some g c =
     let inside : k < m.shape.sectors = omega arith in
     let prot = said m now k true inv.0.same (sym c.if-protects.ensures) in
     record {
-      looked = looked_join g.P.Part.meaning g.P.Part.trace g.P.Part.intact g.met.P.Part.joins _ _ _ _ _ _ inv.0 found.looked
+      looked = looked_join g.P.Part g.met.P.Part.joins _ _ _ _ _ _ inv.0 found.looked
           (guarded_more (free (protected_at m) m.shape.sectors) (64 * (k * m.shape.pages)) (64 * p) (whole m)
           (free_not (protected_at m) m.shape.sectors k inside prot)
           (omega (arith, below_end m.shape.pages k m.shape.sectors inside, c.pages-pages.ensures)));
@@ -78,8 +78,8 @@ loop-k-preserved g c =
     let then : ℕ = cond f 0 (64 * ((k + 1) * m.shape.pages)) in
     elim c.if-protects.branch [
       | then-protects+in_default w ↦ (
-        subst (λ x. LookedBy g.P.Part.meaning g.P.Part.trace g.P.Part.intact then c.args.part.now x) (sym w.part-is)
-            (looked_join g.P.Part.meaning g.P.Part.trace g.P.Part.intact g.met.P.Part.joins _ _ then _ _ _ inv.0 w.in_default.ensures.looked
+        subst (λ x. LookedBy g.P.Part then c.args.part.now x) (sym w.part-is)
+            (looked_join g.P.Part g.met.P.Part.joins _ _ then _ _ _ inv.0 w.in_default.ensures.looked
             (guarded_more f (64 * (k * m.shape.pages)) (64 * p) (64 * ((k + 1) * m.shape.pages))
             (free_not (protected_at m) m.shape.sectors k inside
             (said m now k true inv.0.same (sym w.if-protects.ensures)))
@@ -90,8 +90,8 @@ loop-k-preserved g c =
             (inv.1 h),
       )
       | else-protects w ↦ (
-        subst (λ x. LookedBy g.P.Part.meaning g.P.Part.trace g.P.Part.intact then c.args.part.now x) (sym w.part-is)
-            (looked_most g.P.Part.meaning g.P.Part.trace g.P.Part.intact _ then _ _ inv.0
+        subst (λ x. LookedBy g.P.Part then c.args.part.now x) (sym w.part-is)
+            (looked_most g.P.Part _ then _ _ inv.0
             (guarded_most f (64 * (k * m.shape.pages)) (64 * ((k + 1) * m.shape.pages)) (omega (arith, more)))),
         λ h.
             barred_open m c.requires.sound (wanted m a b) k p c.pages-pages.ensures

@@ -10,7 +10,7 @@ use Rattle.planner.proofs.choice.bulk_cost.Goals as goal
 pub returns-then-not-is_free : goal.returns-then-not-is_free
 returns-then-not-is_free g c =
     record {
-      looked = looked_none g.P.Part.meaning g.P.Part.trace g.P.Part.intact _ c.args.part.now (g.met.P.Part.stays c.args.part.now);
+      looked = looked_none g.P.Part _ c.args.part.now (g.met.P.Part.stays c.args.part.now);
       value = λ h _. sym (cond-false _ _ _ (sym c.if-not-is_free.ensures));
     }
 
@@ -23,7 +23,7 @@ returns g c =
     ap₂ (λ x y. x * y) c.sectors.ensures c.pages.ensures in
     record {
       looked =
-          looked_most g.P.Part.meaning g.P.Part.trace g.P.Part.intact _ _ _ _ c.erase_costs.ensures.looked
+          looked_most g.P.Part _ _ _ _ c.erase_costs.ensures.looked
           (subst (λ n. bytes_off a b 0 (c.sectors.result * c.pages.result) ≤ n) (sym (cond-true _ _ _ (sym c.if-not-is_free.ensures)))
           (omega (arith, on_and_off a b 0 (c.sectors.result * c.pages.result), e)));
       value =

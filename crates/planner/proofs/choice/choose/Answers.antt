@@ -24,7 +24,7 @@ returns-in-Some g c =
     let sectors = c.sector_costs-sectors.ensures in
     let bulk = c.in-Some.ensures in
     record {
-      looked = looked_join g.P.Part.meaning g.P.Part.trace g.P.Part.intact g.met.P.Part.joins _ _ _ _ _ _ sectors.looked bulk.looked (same_most _ _ (ap (λ x. whole m + for_bulk x) sectors.looked.same));
+      looked = looked_join g.P.Part g.met.P.Part.joins _ _ _ _ _ _ sectors.looked bulk.looked (same_most _ _ (ap (λ x. whole m + for_bulk x) sectors.looked.same));
       value =
           λ h.
           let t : Some c.in-Some.cost ≡ answered m a b (by_sectors m a b) =
@@ -46,7 +46,7 @@ returns-in-None g c =
     simp length-take (omega (arith, e, c.requires.sound.few, length-replicate 128 false)) in
     let long : length c.sector_costs-sectors.new.erased ≡ n = c.sector_costs-sectors.auto.erased ∙ all in
     record {
-      looked = looked_join g.P.Part.meaning g.P.Part.trace g.P.Part.intact g.met.P.Part.joins _ _ _ _ _ _ sectors.looked bulk.looked (same_most _ _ (ap (λ x. whole m + for_bulk x) sectors.looked.same));
+      looked = looked_join g.P.Part g.met.P.Part.joins _ _ _ _ _ _ sectors.looked bulk.looked (same_most _ _ (ap (λ x. whole m + for_bulk x) sectors.looked.same));
       value =
           λ h.
           let t : None ≡ answered m a b (by_sectors m a b) =

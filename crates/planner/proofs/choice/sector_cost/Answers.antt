@@ -67,7 +67,7 @@ returns-in-Some g c =
     (chose_second c.touched_costs-kept.result.cost _ c.in-Some.cost
     (erase.value (touched.looked.keeps h) (touched.presets h ∙ ap (λ n. on_from n a b (k * p) p) (sym touched.looked.same)))) in
     record {
-      looked = looked_join g.P.Part.meaning g.P.Part.trace g.P.Part.intact g.met.P.Part.joins _ _ _ _ _ _ touched.looked erase.looked (omega (arith, on_and_off a b (k * p) p, e));
+      looked = looked_join g.P.Part g.met.P.Part.joins _ _ _ _ _ _ touched.looked erase.looked (omega (arith, on_and_off a b (k * p) p, e));
       bound =
           let all = on_and_off a b (k * p) p in (omega (arith, erase.apart, touched.apart, all, low, e), omega (arith, erase.apart, touched.apart, all, low, e));
       presets = (omega (arith, touched.erased), omega (arith, touched.erased));
@@ -96,7 +96,7 @@ returns-in-None g c =
     (chose_first c.touched_costs-kept.result.cost _
     (erase.value (touched.looked.keeps h) (touched.presets h ∙ ap (λ n. on_from n a b (k * p) p) (sym touched.looked.same)))) in
     record {
-      looked = looked_join g.P.Part.meaning g.P.Part.trace g.P.Part.intact g.met.P.Part.joins _ _ _ _ _ _ touched.looked erase.looked (omega (arith, on_and_off a b (k * p) p, e));
+      looked = looked_join g.P.Part g.met.P.Part.joins _ _ _ _ _ _ touched.looked erase.looked (omega (arith, on_and_off a b (k * p) p, e));
       bound = (omega (arith, touched.keeping), omega (arith, touched.keeping));
       presets = (omega (arith, touched.erased), omega (arith, touched.erased));
       first = λ h. ap (λ (x : Bool × (ℕ × ℕ)). x.0) (both h);

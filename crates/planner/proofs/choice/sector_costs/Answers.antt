@@ -19,7 +19,7 @@ marked marks f k v h e before i l =
 
 pub loop-k-init : goal.loop-k-init
 loop-k-init g c = (
-  looked_none g.P.Part.meaning g.P.Part.trace g.P.Part.intact _ c.args.part.now (g.met.P.Part.stays c.args.part.now),
+  looked_none g.P.Part _ c.args.part.now (g.met.P.Part.stays c.args.part.now),
   omega arith,
   omega arith,
   omega arith,
@@ -40,7 +40,7 @@ loop-k-preserved g c =
     let few = c.requires.0.sound.few in
     let cost = parts _ _ _ c.add_assign.ensures.after.0 in
     let presets = parts _ _ _ c.add_assign.ensures.after.1 in (
-      looked_join g.P.Part.meaning g.P.Part.trace g.P.Part.intact g.met.P.Part.joins _ _ _ _ _ _ inv.0 sector.looked (omega (arith, mul_more k m.shape.pages, ap (λ (x : Meaning). x.shape.pages) inv.0.same)),
+      looked_join g.P.Part g.met.P.Part.joins _ _ _ _ _ _ inv.0 sector.looked (omega (arith, mul_more k m.shape.pages, ap (λ (x : Meaning). x.shape.pages) inv.0.same)),
       omega (arith, inv.1, sector.bound, cost.0),
       omega (arith, inv.2, sector.bound, cost.1),
       omega (arith, inv.3, sector.presets, presets.0),

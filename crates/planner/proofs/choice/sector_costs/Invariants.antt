@@ -11,7 +11,7 @@ invariant-loop-k g l =
     let m = g.P.Part.meaning l.initial.part in
     let a = l.write.address in
     let b = l.write.bytes.now in
-    LookedBy g.P.Part.meaning g.P.Part.trace g.P.Part.intact (64 * (l.k * m.shape.pages)) l.initial.part l.part
+    LookedBy g.P.Part (64 * (l.k * m.shape.pages)) l.initial.part l.part
     × (l.costs.cost.0 ≤ 2049 * l.k) × (l.costs.cost.1 ≤ 131072 * l.k)
     × (l.costs.presets.0 ≤ 2048 * l.k) × (l.costs.presets.1 ≤ 131072 * l.k)
     × (g.P.Part.intact l.initial.part → l.costs.cost ≡ sum_to fewest l.k (sector_cost fewest m.shape (kept m a b) (preset m a b)))

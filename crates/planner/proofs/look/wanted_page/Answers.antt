@@ -11,7 +11,7 @@ returns g c =
     let address = c.args.write.address in
     let bytes = c.args.write.bytes.now in
     record {
-      looked = looked_none g.P.Part.meaning g.P.Part.trace g.P.Part.intact _ c.args.part.now (g.met.P.Part.stays c.args.part.now);
+      looked = looked_none g.P.Part _ c.args.part.now (g.met.P.Part.stays c.args.part.now);
       long = ap length c.overlay.ensures ∙ length-overlaid address bytes (q * 64) (replicate 64 0);
       bytes =
           λ h.

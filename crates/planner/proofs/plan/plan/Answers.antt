@@ -12,8 +12,8 @@ returns-then-not-is_inside g c =
     let f : leb (c.args.address + length c.args.bytes.now) (size m.shape) ≡ false =
     ap (λ s. leb (c.args.address + length c.args.bytes.now) s) (sym c.size_of.ensures) ∙ sym c.if-not-is_inside.ensures in
     record {
-      looked = looked_by g.P.Part.meaning g.P.Part.trace g.P.Part.intact 0 _ _ (looked_none g.P.Part.meaning g.P.Part.trace g.P.Part.intact 0 c.args.part.now (g.met.P.Part.stays c.args.part.now));
-      asked = looked_none g.P.Part.meaning g.P.Part.trace g.P.Part.intact _ c.args.part.now (g.met.P.Part.stays c.args.part.now);
+      looked = looked_by g.P.Part 0 _ _ (looked_none g.P.Part 0 c.args.part.now (g.met.P.Part.stays c.args.part.now));
+      asked = looked_none g.P.Part _ c.args.part.now (g.met.P.Part.stays c.args.part.now);
       outside = λ _. refl;
       busy = λ t _. absurd (both_ways _ f t);
       unplanned = λ _. (refl, refl);
@@ -29,8 +29,8 @@ returns-then-is_busy g c =
     ap (λ s. leb (c.args.address + length c.args.bytes.now) s) (sym c.size_of.ensures) ∙ sym c.if-not-is_inside.ensures in
     let i : idle m ≡ false = not-true (idle m) (sym c.if-is_busy.ensures) in
     record {
-      looked = looked_by g.P.Part.meaning g.P.Part.trace g.P.Part.intact 0 _ _ (looked_none g.P.Part.meaning g.P.Part.trace g.P.Part.intact 0 c.args.part.now (g.met.P.Part.stays c.args.part.now));
-      asked = looked_none g.P.Part.meaning g.P.Part.trace g.P.Part.intact _ c.args.part.now (g.met.P.Part.stays c.args.part.now);
+      looked = looked_by g.P.Part 0 _ _ (looked_none g.P.Part 0 c.args.part.now (g.met.P.Part.stays c.args.part.now));
+      asked = looked_none g.P.Part _ c.args.part.now (g.met.P.Part.stays c.args.part.now);
       outside = λ t. absurd (both_ways _ t f);
       busy = λ _ _. refl;
       unplanned = λ _. (refl, refl);
@@ -47,8 +47,8 @@ returns g c =
     let i : idle m ≡ true = not-false (idle m) (sym c.if-is_busy.ensures) in
     let inside = c.plan_inside.ensures in
     record {
-      looked = looked_by g.P.Part.meaning g.P.Part.trace g.P.Part.intact _ _ _ inside.looked;
-      asked = looked_most g.P.Part.meaning g.P.Part.trace g.P.Part.intact _ _ _ _ inside.looked (omega (arith, size_is m (g.met.P.Part.sound c.args.part.now)));
+      looked = looked_by g.P.Part _ _ _ inside.looked;
+      asked = looked_most g.P.Part _ _ _ _ inside.looked (omega (arith, size_is m (g.met.P.Part.sound c.args.part.now)));
       outside = λ t. absurd (both_ways _ t f);
       busy = λ _ t. absurd (both_ways _ t i);
       unplanned = inside.unplanned;

@@ -20,7 +20,7 @@ returns-in-Some g c =
     let F = c.requires.fitting in
     let low = c.in-Some.ensures in
     record {
-      looked = looked_most g.P.Part.meaning g.P.Part.trace g.P.Part.intact _ _ _ _ low.looked (asked-barred m);
+      looked = looked_most g.P.Part _ _ _ _ low.looked (asked-barred m);
       unplanned = λ _. (refl, refl);
       room = tt;
       rest = tt;
@@ -39,7 +39,7 @@ returns-then-cycles-steps g c =
     let low = c.in_default.ensures in
     let ch = c.choose-choice.ensures in
     record {
-      looked = looked_join g.P.Part.meaning g.P.Part.trace g.P.Part.intact g.met.P.Part.joins _ _ _ _ _ _ low.looked ch.looked (asked_most m _ low.looked.same);
+      looked = looked_join g.P.Part g.met.P.Part.joins _ _ _ _ _ _ low.looked ch.looked (asked_most m _ low.looked.same);
       unplanned = λ _. (refl, refl);
       room = tt;
       rest = tt;
@@ -59,7 +59,7 @@ returns-then-sent-data g c =
     let low = c.in_default.ensures in
     let ch = c.choose-choice.ensures in
     record {
-      looked = looked_join g.P.Part.meaning g.P.Part.trace g.P.Part.intact g.met.P.Part.joins _ _ _ _ _ _ low.looked ch.looked (asked_most m _ low.looked.same);
+      looked = looked_join g.P.Part g.met.P.Part.joins _ _ _ _ _ _ low.looked ch.looked (asked_most m _ low.looked.same);
       unplanned = λ _. (refl, refl);
       room = tt;
       rest = tt;
@@ -83,11 +83,11 @@ returns g c =
     let d = c.choose-choice.result.cost.1 in
     let steps = c.args.steps.now in
     let sent = c.args.data.now in
-    let looked₁ = looked_join g.P.Part.meaning g.P.Part.trace g.P.Part.intact g.met.P.Part.joins _ _ (2 * whole m) _ _ _ low.looked ch.looked (asked_choice m _ low.looked.same) in
+    let looked₁ = looked_join g.P.Part g.met.P.Part.joins _ _ (2 * whole m) _ _ _ low.looked ch.looked (asked_choice m _ low.looked.same) in
     let n₀ : length (take n steps) ≡ n = simp length-take (omega arith) in
     let d₀ : length (take d sent) ≡ d = simp length-take (omega arith) in
     record {
-      looked = looked_join g.P.Part.meaning g.P.Part.trace g.P.Part.intact g.met.P.Part.joins _ _ _ _ _ _ looked₁ pp.looked (asked-all m _ looked₁.same);
+      looked = looked_join g.P.Part g.met.P.Part.joins _ _ _ _ _ _ looked₁ pp.looked (asked-all m _ looked₁.same);
       unplanned = λ t. absurd (true≢false t);
       room = (c.if-cycles-steps.false, c.if-sent-data.false);
       rest = (

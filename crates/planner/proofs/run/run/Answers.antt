@@ -13,57 +13,57 @@ use Rattle.planner.proofs.run.run.Goals as goal
 
 -- the cycles that a run did
 done : (g : given.Over) (sent : List ℕ) (limit : ℕ) (steps : List Step) (a b : g.row.P.Denot) (r : Result ℕ RunFault)
-    → Ran g.P.Part.meaning g.P.Part.trace g.P.Part.intact sent limit steps a b r
-    → Did g.P.Part.meaning g.P.Part.trace g.P.Part.intact sent (cycles_of sent (take (sent_before r) steps)) a b
+    → Ran g.P.Part sent limit steps a b r
+    → Did g.P.Part sent (cycles_of sent (take (sent_before r) steps)) a b
 done g sent limit steps a b r x =
-    ran_did g.P.Part.meaning g.P.Part.trace g.P.Part.intact g.met.P.Part.stays g.met.P.Part.joins sent limit steps a b r x
+    ran_did g.P.Part g.met.P.Part.stays g.met.P.Part.joins sent limit steps a b r x
 
 pub returns-then-not-is_limit : goal.returns-then-not-is_limit
 returns-then-not-is_limit g c =
-    let x : Ran g.P.Part.meaning g.P.Part.trace g.P.Part.intact c.args.data.now c.args.limit c.args.steps.now c.args.part.now c.args.part.now (Err (Limit c.args.limit)) =
+    let x : Ran g.P.Part c.args.data.now c.args.limit c.args.steps.now c.args.part.now c.args.part.now (Err (Limit c.args.limit)) =
     no_limit (grind (arith, nat_tests)) refl in
     record { ran = x; did = done g c.args.data.now c.args.limit c.args.steps.now c.args.part.now c.args.part.now (Err (Limit c.args.limit)) x }
 
 pub returns-then-not-wait : goal.returns-then-not-wait
 returns-then-not-wait g c =
-    let p = polled-short g.P.Part.meaning g.P.Part.trace g.P.Part.intact g.met.P.Part.stays g.met.P.Part.joins c.args.part.now c.wait.new.part c.args.limit c.if-not-wait.ensures.idle c.if-not-wait.ensures.polls in
-    let x : Ran g.P.Part.meaning g.P.Part.trace g.P.Part.intact c.args.data.now c.args.limit c.args.steps.now c.args.part.now c.wait.new.part (Err (StillBusy c.args.limit)) =
+    let p = polled-short g.P.Part g.met.P.Part.stays g.met.P.Part.joins c.args.part.now c.wait.new.part c.args.limit c.if-not-wait.ensures.idle c.if-not-wait.ensures.polls in
+    let x : Ran g.P.Part c.args.data.now c.args.limit c.args.steps.now c.args.part.now c.wait.new.part (Err (StillBusy c.args.limit)) =
     still-busy (grind (arith, nat_tests)) p.0 p.1 in
     record { ran = x; did = done g c.args.data.now c.args.limit c.args.steps.now c.args.part.now c.wait.new.part (Err (StillBusy c.args.limit)) x }
 
 pub loop-i-init : goal.loop-i-init
 loop-i-init g c =
-    let p = polled_out g.P.Part.meaning g.P.Part.trace g.P.Part.intact g.met.P.Part.stays g.met.P.Part.joins c.args.part.now c.wait.new.part c.args.limit c.if-not-wait.ensures.idle c.if-not-wait.ensures.polls in
+    let p = polled_out g.P.Part g.met.P.Part.stays g.met.P.Part.joins c.args.part.now c.wait.new.part c.args.limit c.if-not-wait.ensures.idle c.if-not-wait.ensures.polls in
     (none, p.2)
 
 pub returns-in-Err : goal.returns-in-Err
 returns-in-Err g c =
-    let p = polled_out g.P.Part.meaning g.P.Part.trace g.P.Part.intact g.met.P.Part.stays g.met.P.Part.joins c.args.part.now c.wait.new.part c.args.limit c.if-not-wait.ensures.idle c.if-not-wait.ensures.polls in
-    let x : Ran g.P.Part.meaning g.P.Part.trace g.P.Part.intact c.args.data.now c.args.limit c.args.steps.now c.args.part.now c.send.new.part (Err (Refused c.loop-i.i c.in-Err.fault)) =
+    let p = polled_out g.P.Part g.met.P.Part.stays g.met.P.Part.joins c.args.part.now c.wait.new.part c.args.limit c.if-not-wait.ensures.idle c.if-not-wait.ensures.polls in
+    let x : Ran g.P.Part c.args.data.now c.args.limit c.args.steps.now c.args.part.now c.send.new.part (Err (Refused c.loop-i.i c.in-Err.fault)) =
     refused (grind (arith, nat_tests)) p.0 p.1 c.loop-i.i _ c.in-Err.fault c.loop-i-test.true (take_more c.args.steps.now c.loop-i.i _ c.loop-i-test.true) c.loop-i.invariant.0 c.loop-i.invariant.1 (c.in-Err.ensures c.loop-i.invariant.1) in
     record { ran = x; did = done g c.args.data.now c.args.limit c.args.steps.now c.args.part.now c.send.new.part (Err (Refused c.loop-i.i c.in-Err.fault)) x }
 
 pub returns-then-not-wait-2 : goal.returns-then-not-wait-2
 returns-then-not-wait-2 g c =
-    let p = polled_out g.P.Part.meaning g.P.Part.trace g.P.Part.intact g.met.P.Part.stays g.met.P.Part.joins c.args.part.now c.wait.new.part c.args.limit c.if-not-wait.ensures.idle c.if-not-wait.ensures.polls in
-    let q = polled-short g.P.Part.meaning g.P.Part.trace g.P.Part.intact g.met.P.Part.stays g.met.P.Part.joins c.send.new.part c.wait-in-loop-i.new.part c.args.limit c.if-not-wait-2.ensures.idle c.if-not-wait-2.ensures.polls in
-    let x : Ran g.P.Part.meaning g.P.Part.trace g.P.Part.intact c.args.data.now c.args.limit c.args.steps.now c.args.part.now c.wait-in-loop-i.new.part (Err (Abandoned (c.loop-i.i + 1))) =
+    let p = polled_out g.P.Part g.met.P.Part.stays g.met.P.Part.joins c.args.part.now c.wait.new.part c.args.limit c.if-not-wait.ensures.idle c.if-not-wait.ensures.polls in
+    let q = polled-short g.P.Part g.met.P.Part.stays g.met.P.Part.joins c.send.new.part c.wait-in-loop-i.new.part c.args.limit c.if-not-wait-2.ensures.idle c.if-not-wait-2.ensures.polls in
+    let x : Ran g.P.Part c.args.data.now c.args.limit c.args.steps.now c.args.part.now c.wait-in-loop-i.new.part (Err (Abandoned (c.loop-i.i + 1))) =
     abandoned (grind (arith, nat_tests)) p.0 p.1 c.loop-i.i _ c.loop-i-test.true (take_more c.args.steps.now c.loop-i.i _ c.loop-i-test.true) c.loop-i.invariant.0 c.loop-i.invariant.1 (c.in_default.ensures c.loop-i.invariant.1) q.0 q.1 in
     record { ran = x; did = done g c.args.data.now c.args.limit c.args.steps.now c.args.part.now c.wait-in-loop-i.new.part (Err (Abandoned (c.loop-i.i + 1))) x }
 
 pub loop-i-preserved : goal.loop-i-preserved
 loop-i-preserved g c =
-    let q = polled_out g.P.Part.meaning g.P.Part.trace g.P.Part.intact g.met.P.Part.stays g.met.P.Part.joins c.send.new.part c.wait-in-loop-i.new.part c.args.limit c.if-not-wait-2.ensures.idle c.if-not-wait-2.ensures.polls in
+    let q = polled_out g.P.Part g.met.P.Part.stays g.met.P.Part.joins c.send.new.part c.wait-in-loop-i.new.part c.args.limit c.if-not-wait-2.ensures.idle c.if-not-wait-2.ensures.polls in
     let s = more c.loop-i.invariant.0 c.loop-i.invariant.1 (c.in_default.ensures c.loop-i.invariant.1) q.0 q.1 in (
-      subst (λ l. Sends g.P.Part.meaning g.P.Part.trace g.P.Part.intact c.args.data.now c.args.limit c.wait.new.part l c.wait-in-loop-i.new.part) (sym (take_more c.args.steps.now c.loop-i.i _ c.loop-i-test.true)) s,
+      subst (λ l. Sends g.P.Part c.args.data.now c.args.limit c.wait.new.part l c.wait-in-loop-i.new.part) (sym (take_more c.args.steps.now c.loop-i.i _ c.loop-i-test.true)) s,
       q.2,
     )
 
 pub returns : goal.returns
 returns g c =
-    let p = polled_out g.P.Part.meaning g.P.Part.trace g.P.Part.intact g.met.P.Part.stays g.met.P.Part.joins c.args.part.now c.wait.new.part c.args.limit c.if-not-wait.ensures.idle c.if-not-wait.ensures.polls in
-    let x : Ran g.P.Part.meaning g.P.Part.trace g.P.Part.intact c.args.data.now c.args.limit c.args.steps.now c.args.part.now c.loop-i.part (Ok (length c.args.steps.now)) =
+    let p = polled_out g.P.Part g.met.P.Part.stays g.met.P.Part.joins c.args.part.now c.wait.new.part c.args.limit c.if-not-wait.ensures.idle c.if-not-wait.ensures.polls in
+    let x : Ran g.P.Part c.args.data.now c.args.limit c.args.steps.now c.args.part.now c.loop-i.part (Ok (length c.args.steps.now)) =
     ran (grind (arith, nat_tests)) p.0 p.1
-    (subst (λ l. Sends g.P.Part.meaning g.P.Part.trace g.P.Part.intact c.args.data.now c.args.limit c.wait.new.part l c.loop-i.part)
+    (subst (λ l. Sends g.P.Part c.args.data.now c.args.limit c.wait.new.part l c.loop-i.part)
     (take_all c.loop-i.i c.args.steps.now c.loop-i-test.false) c.loop-i.invariant.0) in
     record { ran = x; did = done g c.args.data.now c.args.limit c.args.steps.now c.args.part.now c.loop-i.part (Ok (length c.args.steps.now)) x }

@@ -13,8 +13,8 @@ pub returns : goal.returns
 returns g c z = go c.cycle.result refl
   where
     go : (r : Result (Unit {0}) PartFault) → c.cycle.result ≡ r → MatchResult r
-        (λ _. Carries g.P.Part.meaning g.P.Part.trace g.P.Part.intact c.args.data.now c.args.step.now c.args.part.now c.cycle.new.self)
-        (λ f. Refuses g.P.Part.meaning g.P.Part.trace g.P.Part.intact c.args.data.now c.args.step.now f c.args.part.now c.cycle.new.self)
+        (λ _. Carries g.P.Part c.args.data.now c.args.step.now c.args.part.now c.cycle.new.self)
+        (λ f. Refuses g.P.Part c.args.data.now c.args.step.now f c.args.part.now c.cycle.new.self)
     go (Ok u) e =
         let m = g.P.Part.meaning c.args.part.now in
         let s = c.args.step.now in

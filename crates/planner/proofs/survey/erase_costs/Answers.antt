@@ -15,7 +15,7 @@ use Rattle.planner.proofs.survey.erase_costs.Goals as goal
 pub loop-q-init : goal.loop-q-init
 loop-q-init g c =
     let none : c.args.first - c.args.first ≡ 0 = omega arith in (
-      looked_none g.P.Part.meaning g.P.Part.trace g.P.Part.intact _ c.args.part.now (g.met.P.Part.stays c.args.part.now),
+      looked_none g.P.Part _ c.args.part.now (g.met.P.Part.stays c.args.part.now),
       omega arith,
       omega arith,
       λ _.
@@ -37,7 +37,7 @@ returns-then-at_most g c =
     let start : ℕ × ℕ = fewest.plus (1, 0) c.args.presets in
     let f : ℕ → ℕ × ℕ = λ i. preset_off m a b (c.args.first + i) in
     record {
-      looked = looked_most g.P.Part.meaning g.P.Part.trace g.P.Part.intact _ _ _ _ inv.0 (off_front c.args.write.address c.args.write.bytes.now c.args.first c.args.count (c.loop-q.q - c.args.first) (omega arith));
+      looked = looked_most g.P.Part _ _ _ _ inv.0 (off_front c.args.write.address c.args.write.bytes.now c.args.first c.args.count (c.loop-q.q - c.args.first) (omega arith));
       bound = tt;
       apart = tt;
       value =
@@ -59,7 +59,7 @@ loop-q-preserved g c =
     let start : ℕ × ℕ = c.plus-cost.result in
     let f : ℕ → ℕ × ℕ = λ i. preset_off m a b (c.args.first + i) in
     let sum = parts _ _ _ c.plus-cost-in-loop-q.ensures in (
-      looked_join g.P.Part.meaning g.P.Part.trace g.P.Part.intact g.met.P.Part.joins _ _ _ _ _ _ inv.0 page.looked (same_most _ _ (sym (off_next a b c.args.first c.loop-q.q (omega arith)))),
+      looked_join g.P.Part g.met.P.Part.joins _ _ _ _ _ _ inv.0 page.looked (same_most _ _ (sym (off_next a b c.args.first c.loop-q.q (omega arith)))),
       omega (arith, inv.1, page.bound, sum.0),
       omega (arith, inv.2, page.bound, sum.1),
       λ h.
@@ -85,7 +85,7 @@ returns-then-at_most-2 g c =
     let inv = c.loop-q.invariant in
     let m = g.P.Part.meaning c.args.part.now in
     record {
-      looked = looked_most g.P.Part.meaning g.P.Part.trace g.P.Part.intact _ _ _ _ inv.0 (off_front c.args.write.address c.args.write.bytes.now c.args.first c.args.count (c.loop-q.q - c.args.first) (omega arith));
+      looked = looked_most g.P.Part _ _ _ _ inv.0 (off_front c.args.write.address c.args.write.bytes.now c.args.first c.args.count (c.loop-q.q - c.args.first) (omega arith));
       bound = tt;
       apart = tt;
       value =
@@ -102,7 +102,7 @@ returns-else-at_most-2 g c =
     let start = parts _ _ _ c.plus-cost.ensures in
     let m = g.P.Part.meaning c.args.part.now in
     record {
-      looked = looked_most g.P.Part.meaning g.P.Part.trace g.P.Part.intact _ _ _ _ inv.0 (off_front c.args.write.address c.args.write.bytes.now c.args.first c.args.count (c.loop-q.q - c.args.first) (omega arith));
+      looked = looked_most g.P.Part _ _ _ _ inv.0 (off_front c.args.write.address c.args.write.bytes.now c.args.first c.args.count (c.loop-q.q - c.args.first) (omega arith));
       bound = (omega (arith, inv.1, start.0), omega (arith, inv.2, start.1));
       apart =
           let n = off_front c.args.write.address c.args.write.bytes.now c.args.first c.args.count (c.loop-q.q - c.args.first) (omega arith) in

@@ -18,7 +18,7 @@ returns-then-not-touches g c =
     let m = g.P.Part.meaning c.args.part.now in
     let off = sym c.if-not-touches.ensures in
     record {
-      looked = looked_none g.P.Part.meaning g.P.Part.trace g.P.Part.intact _ c.args.part.now (g.met.P.Part.stays c.args.part.now);
+      looked = looked_none g.P.Part _ c.args.part.now (g.met.P.Part.stays c.args.part.now);
       keeping = (omega arith, omega arith);
       erased = (omega arith, omega arith);
       apart = (omega arith, omega arith);
@@ -31,7 +31,7 @@ returns g c =
     let pages = c.both_pages.ensures in
     let touched = sym c.if-not-touches.ensures in
     record {
-      looked = subst (λ n. LookedBy g.P.Part.meaning g.P.Part.trace g.P.Part.intact n c.args.part.now c.both_pages.new.part) (sym (cond-true _ _ _ touched)) pages.looked;
+      looked = subst (λ n. LookedBy g.P.Part n c.args.part.now c.both_pages.new.part) (sym (cond-true _ _ _ touched)) pages.looked;
       keeping = c.page_cost.ensures.bound;
       erased = c.page_cost-2.ensures.bound;
       apart =

@@ -16,7 +16,7 @@ touches-requires g c =
 pub returns-then-touches : goal.returns-then-touches
 returns-then-touches g c =
     record {
-      looked = looked_none g.P.Part.meaning g.P.Part.trace g.P.Part.intact _ c.args.part.now (g.met.P.Part.stays c.args.part.now);
+      looked = looked_none g.P.Part _ c.args.part.now (g.met.P.Part.stays c.args.part.now);
       bound = (omega arith, omega arith);
       apart = (omega arith, omega arith);
       value = λ h. sym (cond-true _ _ _ (sym c.if-touches.ensures));
@@ -28,7 +28,7 @@ returns g c =
     let page = c.read_page-page.ensures in
     let off = sym c.if-touches.ensures in
     record {
-      looked = subst (λ n. LookedBy g.P.Part.meaning g.P.Part.trace g.P.Part.intact n c.args.part.now c.read_page-page.new.part) (sym (cond-false _ _ _ off)) page.looked;
+      looked = subst (λ n. LookedBy g.P.Part n c.args.part.now c.read_page-page.new.part) (sym (cond-false _ _ _ off)) page.looked;
       bound = c.page_cost.ensures.bound;
       apart =
           let n = cond-false {A = ℕ} _ 0 64 off in

@@ -12,7 +12,7 @@ loop-q-init g c =
     let m = g.P.Part.meaning c.args.part.now in
     let a = c.args.write.address in
     let b = c.args.write.bytes.now in (
-      looked_none g.P.Part.meaning g.P.Part.trace g.P.Part.intact _ c.args.part.now (g.met.P.Part.stays c.args.part.now),
+      looked_none g.P.Part _ c.args.part.now (g.met.P.Part.stays c.args.part.now),
       omega arith,
       omega arith,
       omega arith,
@@ -33,7 +33,7 @@ loop-q-preserved g c =
     let q = c.loop-q.q in
     let cost = parts _ _ _ c.add_assign.ensures.after.0 in
     let presets = parts _ _ _ c.add_assign.ensures.after.1 in (
-      looked_join g.P.Part.meaning g.P.Part.trace g.P.Part.intact g.met.P.Part.joins _ _ _ _ _ _ inv.0 page.looked (same_most _ _ (sym (on_next a b c.args.first c.loop-q.q (omega arith)))),
+      looked_join g.P.Part g.met.P.Part.joins _ _ _ _ _ _ inv.0 page.looked (same_most _ _ (sym (on_next a b c.args.first c.loop-q.q (omega arith)))),
       omega (arith, inv.1, page.keeping, cost.0),
       omega (arith, inv.2, page.keeping, cost.1),
       omega (arith, inv.3, page.erased, presets.0),

@@ -9,7 +9,7 @@ invariant-loop-q g l =
     let m = g.P.Part.meaning l.initial.part in
     let a = l.write.address in
     let b = l.write.bytes.now in
-    LookedBy g.P.Part.meaning g.P.Part.trace g.P.Part.intact (bytes_on a b l.first (l.q - l.first)) l.initial.part l.part
+    LookedBy g.P.Part (bytes_on a b l.first (l.q - l.first)) l.initial.part l.part
     × (l.costs.cost.0 ≤ l.q - l.first) × (l.costs.cost.1 ≤ 64 * (l.q - l.first)) × (l.costs.presets.0 ≤ l.q - l.first) × (l.costs.presets.1 ≤ 64 * (l.q - l.first))
     × (g.P.Part.intact l.initial.part → l.costs.cost ≡ kept_from m a b l.first (l.q - l.first))
     × (g.P.Part.intact l.initial.part → l.costs.presets ≡ on_from m a b l.first (l.q - l.first))

@@ -8,8 +8,8 @@ use Rattle.planner.proofs.wait.wait.Goals as goal
 
 -- so many polls, by another name for their number
 by : (g : given.Over) (m n : ℕ) (a b : g.row.P.Denot) → m ≡ n
-    → Polls g.P.Part.meaning g.P.Part.trace g.P.Part.intact m a b → Polls g.P.Part.meaning g.P.Part.trace g.P.Part.intact n a b
-by g m n a b e p = subst (λ k. Polls g.P.Part.meaning g.P.Part.trace g.P.Part.intact k a b) e p
+    → Polls g.P.Part m a b → Polls g.P.Part n a b
+by g m n a b e p = subst (λ k. Polls g.P.Part k a b) e p
 
 pub returns-then-not-is_busy : goal.returns-then-not-is_busy
 returns-then-not-is_busy g c =
@@ -19,13 +19,13 @@ returns-then-not-is_busy g c =
     record {
       idle = sym (le-leb (g.P.Part.meaning a).due c.args.limit (omega arith));
       polls = by g 0 (min (g.P.Part.meaning a).due c.args.limit) a a (omega arith)
-          (polls_none g.P.Part.meaning g.P.Part.trace g.P.Part.intact g.met.P.Part.stays g.met.P.Part.joins a);
+          (polls_none g.P.Part g.met.P.Part.stays g.met.P.Part.joins a);
     }
 
 pub loop-init : goal.loop-init
 loop-init g c =
     let e = c.if-not-is_busy.ensures in (
-      polls_none g.P.Part.meaning g.P.Part.trace g.P.Part.intact g.met.P.Part.stays g.met.P.Part.joins c.args.part.now,
+      polls_none g.P.Part g.met.P.Part.stays g.met.P.Part.joins c.args.part.now,
       grind (arith, nat_tests),
     )
 
@@ -34,7 +34,7 @@ returns-then-poll g c =
     let a = c.args.part.now in
     let n = c.loop.counter in
     let e = c.if-poll.ensures in
-    let p = polls_more g.P.Part.meaning g.P.Part.trace g.P.Part.intact g.met.P.Part.stays g.met.P.Part.joins n a c.loop.part c.poll.new.self c.loop.invariant.0 e.waited e.trace e.intact in
+    let p = polls_more g.P.Part g.met.P.Part.stays g.met.P.Part.joins n a c.loop.part c.poll.new.self c.loop.invariant.0 e.waited e.trace e.intact in
     let z : (g.P.Part.meaning c.poll.new.self).due ≡ 0 = eqb-true _ _ (sym e.idle) in
     let d : (g.P.Part.meaning a).due - (n + 1) ≡ 0 = sym (ap (λ m. m.due) p.leaves) ∙ z in
     let l = c.loop.invariant.1 in
@@ -48,7 +48,7 @@ loop-preserved g c =
     let a = c.args.part.now in
     let n = c.loop.counter in
     let e = c.if-poll.ensures in
-    let p = polls_more g.P.Part.meaning g.P.Part.trace g.P.Part.intact g.met.P.Part.stays g.met.P.Part.joins n a c.loop.part c.poll.new.self c.loop.invariant.0 e.waited e.trace e.intact in
+    let p = polls_more g.P.Part g.met.P.Part.stays g.met.P.Part.joins n a c.loop.part c.poll.new.self c.loop.invariant.0 e.waited e.trace e.intact in
     let z = eqb-false (g.P.Part.meaning c.poll.new.self).due 0 (sym e.idle) in
     let d : (g.P.Part.meaning c.poll.new.self).due ≡ (g.P.Part.meaning a).due - (n + 1) = ap (λ m. m.due) p.leaves in
     (p, omega arith)
