@@ -1,6 +1,7 @@
 -- What is promised of calls to a fence over a driver that was just attached: nothing is assumed of it any more.
 use Rattle.std.specs.Prelude.{◌≡◌, ℕ, List, [], replicate, Some, None}
 use Rattle.port.specs.declared.port.Port.{Ghosts}
+use Rattle.part.specs.declared.part.Part as of_part
 use Rattle.driver.specs.declared.driver.Driver.{Driver}
 use Rattle.driver.specs.declared.fault.AttachFault.{AttachFault}
 use Rattle.driver.specs.declared.fault.AttachFault.TheVariants.{Limit, Busy}
@@ -15,6 +16,10 @@ use Rattle.calls.specs.Requests.{Records}
 use Rattle.calls.specs.History.{Kept}
 
 module _ {P : Type 0} (ports : Ghosts P) where
+  -- a driver of the port, as a part
+  abbrev pub driving : of_part.Ghosts (Driver P ports)
+  driving = record { meaning = driver_meaning ports; trace = DriverTrace ports; intact = λ _. Unit {0} }
+
   -- a driver attached to the port, and the calls made to a new fence over it
   pub record Played (limit steps room : ℕ) (port : P) (calls : List Call) (es : List Entry) (f : Fence (Driver P ports)) : Type 0 where
     pub attaches : unattached limit (ports.chip port).busy ≡ None
@@ -24,7 +29,7 @@ module _ {P : Type 0} (ports : Ghosts P) where
     -- its calls are those handed in, and its record keeps the promise, whose image is at first the chip's
     pub image : (driver_meaning ports driver).image ≡ (ports.chip port).image
     pub records : Records calls es []
-    pub kept : Kept (driver_meaning ports) (DriverTrace ports) steps room driver es f
+    pub kept : Kept driving steps room driver es f
 
   -- the driver does not attach: the port is handed back as attaching leaves it
   abbrev pub Refused : ℕ → P → AttachFault → P → Type 0

@@ -13,6 +13,7 @@ use port::port::Port;
 use std::alloc::Global;
 
 // Why no call was made. What was handed in comes back.
+#[derive(Drop)]
 pub enum Unplayed<P: Port> {
     Unattached {
         fault: AttachFault,

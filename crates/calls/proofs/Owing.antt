@@ -1,7 +1,7 @@
 -- What a call owes, and small facts of references.
 use Rattle.std.proofs.Common.{◌≡◌, ℕ, List, Some, None, Option, sym, ap, ◌∙◌, subst}
 use Rattle.memory.specs.Page.{put}
-use Rattle.part.specs.Meaning.{Meaning, Event}
+use Rattle.part.specs.declared.part.Part.{Ghosts}
 use Rattle.fence.specs.declared.fence.Fence.{Fence}
 use Rattle.calls.specs.declared.call.Answer.{Answer}
 use Rattle.calls.specs.declared.call.Call.{Call}
@@ -20,12 +20,12 @@ pub holds_put : (o : Option (List ℕ)) (x y : List ℕ) (address : ℕ) (bytes 
 holds_put None x y address bytes e h = tt
 holds_put (Some i) x y address bytes e h = e ∙ ap (put address bytes) h
 
-module _ {P : Type 0} (meaning : P → Meaning) (trace : P → P → List Event → Type 0) (steps room : ℕ) where
+module _ {P : Type 0} (part : Ghosts P) (steps room : ℕ) where
   pub record Owed (f : Fence P) (request : Request) (held : List ℕ) (answer : Answer) (g : Fence P) : Type 0 where
-    pub law : (ref : Reference) → Agrees meaning trace steps room ref f → Law meaning trace steps room ref f request held answer g
-    pub agrees : (ref : Reference) → Agrees meaning trace steps room ref f → Agrees meaning trace steps room (fed ref request (outcome answer)) g
+    pub law : (ref : Reference) → Agrees part steps room ref f → Law part steps room ref f request held answer g
+    pub agrees : (ref : Reference) → Agrees part steps room ref f → Agrees part steps room (fed ref request (outcome answer)) g
 
   pub owed_follows : (f g : Fence P) (call : Call) (answer answer' : Answer) → answer' ≡ answer
-      → Owed f (asks call) (buffer call) answer g → Follows meaning trace steps room f (entry call answer') g
+      → Owed f (asks call) (buffer call) answer g → Follows part steps room f (entry call answer') g
   owed_follows f g call answer answer' e o =
-      subst (λ (x : Answer). Follows meaning trace steps room f (entry call x) g) (sym e) (record { law = o.law; agrees = o.agrees })
+      subst (λ (x : Answer). Follows part steps room f (entry call x) g) (sym e) (record { law = o.law; agrees = o.agrees })

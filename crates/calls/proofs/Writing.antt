@@ -3,6 +3,7 @@ use Rattle.std.proofs.Common.{◌≡◌, ℕ, ◌+◌, ◌<◌, List, [], ◌∷
 use Rattle.std.proofs.lemmas.List.{length-map}
 use Rattle.std.proofs.lemmas.Bool.{both_ways}
 use Rattle.memory.specs.Cycle.{Cycle, Goes}
+use Rattle.part.specs.declared.part.Part.{Ghosts}
 use Rattle.part.specs.Meaning.{Meaning, Event, cycles, protected_at}
 use Rattle.fence.specs.declared.fence.Fence.{Fence}
 use Rattle.least.specs.declared.step.Step.{Step}
@@ -26,23 +27,23 @@ use Rattle.calls.specs.declared.call.Answer.TheVariants as answers
 use Rattle.calls.specs.Refusals.{write_answer}
 use Rattle.calls.specs.Requests.{writing}
 use Rattle.calls.specs.Causes.{Passes, Unaltered, WriteCause, wanted}
-use Rattle.calls.specs.Law.{ProtectedLaw, meant, Traced}
+use Rattle.calls.specs.Law.{ProtectedLaw, fencing, meant, Traced}
 use Rattle.calls.proofs.Owing.{Owed, holds_moved, holds_put}
 use Rattle.calls.proofs.Rows.{same_row}
 
-module _ {P : Type 0} (meaning : P → Meaning) (trace : P → P → List Event → Type 0) (intact : P → Type 0)
-    (stays : (s : P) → trace s s [])
-    (joins : (a b c : P) (l m : List Event) → trace a b l → trace b c m → trace a c (l ++ m))
+module _ {P : Type 0} (part : Ghosts P)
+    (stays : (s : P) → part.trace s s [])
+    (joins : (a b c : P) (l m : List Event) → part.trace a b l → part.trace b c m → part.trace a c (l ++ m))
     (limit address : ℕ) (bytes : List ℕ) (b : Buffers)
   where
     abbrev m : Fence P → Meaning
-    m = meant meaning trace
+    m = meant part
 
     abbrev t : Fence P → Fence P → List Event → Type 0
-    t = Traced meaning trace
+    t = Traced part
 
-    abbrev whole : Fence P → Type 0
-    whole f = intact f.part
+    abbrev fence : Ghosts (Fence P)
+    fence = fencing part
 
     stay : (f : Fence P) → t f f []
     stay f = (refl, stays f.part)
@@ -57,11 +58,11 @@ module _ {P : Type 0} (meaning : P → Meaning) (trace : P → P → List Event 
     room = length b.sent
 
     abbrev Owes : Fence P → Answer → Fence P → Type 0
-    Owes f answer g = (held : List ℕ) → Owed meaning trace steps room f (writing address bytes limit) held answer g
+    Owes f answer g = (held : List ℕ) → Owed part steps room f (writing address bytes limit) held answer g
 
     -- a refusal: nothing alters
-    refused_owed : (f g : Fence P) (fault : WriteFault) → Unaltered m t f g
-        → ProtectedLaw meaning trace f (writing address bytes limit) (answers.Refused (Write fault))
+    refused_owed : (f g : Fence P) (fault : WriteFault) → Unaltered fence f g
+        → ProtectedLaw part f (writing address bytes limit) (answers.Refused (Write fault))
         → WriteCause (m f) steps room address bytes limit fault → Owes f (answers.Refused (Write fault)) g
     refused_owed f g fault u p c held =
         record {
@@ -69,25 +70,25 @@ module _ {P : Type 0} (meaning : P → Meaning) (trace : P → P → List Event 
           agrees = λ ref a. record { image = holds_moved ref.image _ _ u.image a.image; closed = u.happened.0 ∙ a.closed };
         }
 
-    unaltered_same : (f g : Fence P) → g ≡ f → Unaltered m t f g
+    unaltered_same : (f g : Fence P) → g ≡ f → Unaltered fence f g
     unaltered_same f g e =
         record { events = []; happened = subst (λ x. t f x []) (sym e) (stay f); none = refl; image = ap (λ x. (m x).image) e }
 
-    unaltered_did : (f g : Fence P) → Did m t whole [] [] f g → (m g).image ≡ (m f).image → Unaltered m t f g
+    unaltered_did : (f g : Fence P) → Did fence [] [] f g → (m g).image ≡ (m f).image → Unaltered fence f g
     unaltered_did f g d e = record { events = d.events; happened = d.happened; none = d.exactly; image = e }
 
-    polls-image : (n : ℕ) (f g : Fence P) → Polls m t whole n f g → (m g).image ≡ (m f).image
+    polls-image : (n : ℕ) (f g : Fence P) → Polls fence n f g → (m g).image ≡ (m f).image
     polls-image n f g p = ap (λ (x : Meaning). x.image) p.leaves
 
     -- waiting first, and then what was done
-    after-polls : (n : ℕ) (f idle g : Fence P) (ys : List Cycle) → Polls m t whole n f idle → Did m t whole [] ys idle g → Did m t whole [] ys f g
-    after-polls n f idle g ys p d = did_join m t whole stay join [] [] ys f idle g (did_polls m t whole stay join [] n f idle p) d
+    after-polls : (n : ℕ) (f idle g : Fence P) (ys : List Cycle) → Polls fence n f idle → Did fence [] ys idle g → Did fence [] ys f g
+    after-polls n f idle g ys p d = did_join fence stay join [] [] ys f idle g (did_polls fence stay join [] n f idle p) d
 
     -- planning answers the same before and after the wait
     SaysOf : Meaning → writes.Answer → Type 0
     SaysOf x answer = Says x.shape (protected_at x) x.image address bytes steps room answer
 
-    says_before : (n : ℕ) (f idle : Fence P) (x : writes.Answer) → Polls m t whole n f idle → SaysOf (m idle) (plan_over (m idle) address bytes steps room)
+    says_before : (n : ℕ) (f idle : Fence P) (x : writes.Answer) → Polls fence n f idle → SaysOf (m idle) (plan_over (m idle) address bytes steps room)
         → plan_over (m idle) address bytes steps room ≡ x → SaysOf (m f) x
     unfolding SaysOf
     says_before n f idle x p s e = subst (λ (y : Meaning). SaysOf y x) p.leaves (subst (λ (z : writes.Answer). SaysOf (m idle) z) e s)
@@ -98,7 +99,7 @@ module _ {P : Type 0} (meaning : P → Meaning) (trace : P → P → List Event 
       owed_as fault known l e o = subst (λ (w : WriteFault). Owes f (write_answer (Err w)) g) (sym (same_row fault known l e)) o
 
       -- planning refuses: by what it says, with the fault that has its row
-      unplanned_owed : (fault : WriteFault) (x : writes.Answer) → SaysOf (m f) x → x ≡ writes.refused (row fault) → Unaltered m t f g → Owes f (write_answer (Err fault)) g
+      unplanned_owed : (fault : WriteFault) (x : writes.Answer) → SaysOf (m f) x → x ≡ writes.refused (row fault) → Unaltered fence f g → Owes f (write_answer (Err fault)) g
       unfolding SaysOf
       unplanned_owed fault _ (theorems.outside past) e u = absurd (omega (arith, past, passes.inside))
       unplanned_owed fault _ (theorems.barred a inside lowest nothing) e u =
@@ -119,7 +120,7 @@ module _ {P : Type 0} (meaning : P → Meaning) (trace : P → P → List Event 
       least_of _ _ _ (theorems.written cost list fresh inside least counts few short) = least
 
       written_owed : (cost : ℕ × ℕ) (ys : List Cycle) → LeastBy (m f).shape (protected_at (m f)) (m f).image (wanted (m f) address bytes) ys cost
-          → Did m t whole [] ys f g → (m g).due ≡ 0 → whole f → Owes f (answers.Written cost) g
+          → Did fence [] ys f g → (m g).due ≡ 0 → fence.intact f → Owes f (answers.Written cost) g
       written_owed cost ys least d quiet i held =
           let leaves : (m g).image ≡ wanted (m f) address bytes = sym (d.goes i).1 ∙ least.goes.1 in
           record {
@@ -146,12 +147,12 @@ module _ {P : Type 0} (meaning : P → Meaning) (trace : P → P → List Event 
 
       abandoned_owed : (before still : Fence P) (k : ℕ) (s : Step) (cost : ℕ × ℕ) (list : List Step) (fresh : List ℕ)
           → LeastBy (m f).shape (protected_at (m f)) (m f).image (wanted (m f) address bytes) (cycles_of fresh list) cost
-          → k < length list → Did m t whole [] (cycles_of fresh (take k list)) f before → (m before).due ≡ 0
-          → Carries m t whole fresh s before still → limit < (m still).due → Polls m t whole limit still g
-          → whole f → Owes f (answers.Abandoned (k + 1)) g
+          → k < length list → Did fence [] (cycles_of fresh (take k list)) f before → (m before).due ≡ 0
+          → Carries fence fresh s before still → limit < (m still).due → Polls fence limit still g
+          → fence.intact f → Owes f (answers.Abandoned (k + 1)) g
       abandoned_owed before still k s cost list fresh least lt d quiet step over stop i held =
           let y = step_cycle fresh s in
-          let both = did_join m t whole stay join [] (cycles_of fresh (take k list)) (y ∷ []) f before still d (did_over m t whole stay join fresh [] (y ∷ []) before still (did_step m t whole stay join fresh s before still step)) in
+          let both = did_join fence stay join [] (cycles_of fresh (take k list)) (y ∷ []) f before still d (did_over fence stay join fresh [] (y ∷ []) before still (did_step fence stay join fresh s before still step)) in
           let count : length (cycles d.events) ≡ k = ap length d.exactly ∙ (length-map (take k list) (step_cycle fresh) ∙ (length-take k list ∙ omega arith)) in
           let shut : g.closed ≡ f.closed = stop.made.0 ∙ (step.event.0 ∙ d.happened.0) in
           record {
@@ -182,8 +183,8 @@ module _ {P : Type 0} (meaning : P → Meaning) (trace : P → P → List Event 
             agrees = λ ref a. record { image = tt; closed = shut ∙ a.closed };
           }
 
-    carried_owed : (n : ℕ) (f idle g : Fence P) (r : Result (ℕ × ℕ) WriteFault) → Passes (m f) address (length bytes) limit → whole f → Polls m t whole n f idle
-        → SaysOf (m idle) (plan_over (m idle) address bytes steps room) → Carried m t whole limit address bytes b idle g r → Owes f (write_answer r) g
+    carried_owed : (n : ℕ) (f idle g : Fence P) (r : Result (ℕ × ℕ) WriteFault) → Passes (m f) address (length bytes) limit → fence.intact f → Polls fence n f idle
+        → SaysOf (m idle) (plan_over (m idle) address bytes steps room) → Carried fence limit address bytes b idle g r → Owes f (write_answer r) g
     carried_owed n f idle g _ passes i p says (unplanned fault e d same left) =
         unplanned_owed f g passes fault (writes.refused (row fault)) (says_before n f idle _ p says e) refl
         (unaltered_did f g (after-polls n f idle g [] p d) (ap (λ (x : Meaning). x.image) same ∙ polls-image n f idle p))
@@ -193,25 +194,25 @@ module _ {P : Type 0} (meaning : P → Meaning) (trace : P → P → List Event 
         abandoned_owed f g passes before still k s cost list fresh (least_of f g passes cost list fresh (says_before n f idle _ p says e)) lt
         (after-polls n f idle before _ p d) quiet step over stop i
 
-    pub write_owed : (f g : Fence P) (r : Result (ℕ × ℕ) WriteFault) → whole f → Wrote m t whole limit address bytes b f g r → Owes f (write_answer r) g
+    pub write_owed : (f g : Fence P) (r : Result (ℕ × ℕ) WriteFault) → fence.intact f → Wrote fence limit address bytes b f g r → Owes f (write_answer r) g
     unfolding SaysOf
     write_owed f g _ i (no_limit off same left) =
         refused_owed f g (Limit limit) (unaltered_same f g same) (λ p. absurd (both_ways _ off p.limited)) (refl, off)
     write_owed f g _ i (outside on past same left) =
         refused_owed f g (Outside address) (unaltered_same f g same) (λ p. absurd (omega (arith, past, p.inside))) (refl, on, past)
     write_owed f g _ i (still-busy on inside due p left) =
-        refused_owed f g (StillBusy limit) (unaltered_did f g (did_polls m t whole stay join [] limit f g p) (polls-image limit f g p))
+        refused_owed f g (StillBusy limit) (unaltered_did f g (did_polls fence stay join [] limit f g p) (polls-image limit f g p))
         (λ q. absurd (omega (arith, due, q.waits))) (refl, on, inside, due)
     write_owed f g r i (waited {idle = idle} on inside due p says carried) =
         carried_owed (m f).due f idle g r (record { limited = on; inside = inside; waits = due }) i p says (carried i)
 
-    pub write_keeps : (f g : Fence P) (r : Result (ℕ × ℕ) WriteFault) → whole f → Wrote m t whole limit address bytes b f g r → whole g
-    write_keeps f g _ i (no_limit off same left) = subst whole (sym same) i
-    write_keeps f g _ i (outside on past same left) = subst whole (sym same) i
+    pub write_keeps : (f g : Fence P) (r : Result (ℕ × ℕ) WriteFault) → fence.intact f → Wrote fence limit address bytes b f g r → fence.intact g
+    write_keeps f g _ i (no_limit off same left) = subst fence.intact (sym same) i
+    write_keeps f g _ i (outside on past same left) = subst fence.intact (sym same) i
     write_keeps f g _ i (still-busy on inside due p left) = p.keeps i
     write_keeps f g r i (waited {idle = idle} on inside due p says carried) = go r (carried i)
       where
-        go : (r : Result (ℕ × ℕ) WriteFault) → Carried m t whole limit address bytes b idle g r → whole g
+        go : (r : Result (ℕ × ℕ) WriteFault) → Carried fence limit address bytes b idle g r → fence.intact g
         go _ (unplanned fault e d same left) = d.keeps (p.keeps i)
         go _ (written cost list fresh e filled d quiet) = d.keeps (p.keeps i)
         go _ (abandoned k s cost list fresh e filled lt split d quiet step over stop) = stop.keeps (step.keeps (d.keeps (p.keeps i)))

@@ -4,6 +4,7 @@ use Rattle.memory.specs.Shape.{size}
 use Rattle.memory.specs.Page.{put}
 use Rattle.memory.specs.Cycle.{Cycle, Goes}
 use Rattle.part.specs.declared.fault.PartFault.TheVariants as parts
+use Rattle.part.specs.declared.part.Part.{Ghosts}
 use Rattle.part.specs.Meaning.{Meaning, Event, carried, polled, cycles, protected_at}
 use Rattle.least.specs.Barred.{LowestIs}
 use Rattle.least.specs.Cost.{spent}
@@ -64,39 +65,39 @@ Cause m steps room (reading address n) refusal =
 Cause m steps room (writing address bytes limit) (Part fault) = ⊥
 Cause m steps room (writing address bytes limit) (Write fault) = WriteCause m steps room address bytes limit fault
 
-module _ {F : Type 0} (meaning : F → Meaning) (trace : F → F → List Event → Type 0) where
+module _ {F : Type 0} (part : Ghosts F) where
   -- from f to g nothing was carried out, and the image stays
   pub record Unaltered (f g : F) : Type 0 where
     pub events : List Event
-    pub happened : trace f g events
+    pub happened : part.trace f g events
     pub none : cycles events ≡ []
-    pub image : (meaning g).image ≡ (meaning f).image
+    pub image : (part.meaning g).image ≡ (part.meaning f).image
 
   -- a done write: it leaves the image wanted and nothing due, its answer is the cost of the cycles that it sent, and every accepted
   -- list that leads there costs at least that
   pub record DoneWrite (address : ℕ) (bytes : List ℕ) (limit : ℕ) (cost : ℕ × ℕ) (f g : F) : Type 0 where
-    pub passes : Passes (meaning f) address (length bytes) limit
-    pub leaves : (meaning g).image ≡ wanted (meaning f) address bytes
-    pub idle : (meaning g).due ≡ 0
+    pub passes : Passes (part.meaning f) address (length bytes) limit
+    pub leaves : (part.meaning g).image ≡ wanted (part.meaning f) address bytes
+    pub idle : (part.meaning g).due ≡ 0
     pub events : List Event
-    pub happened : trace f g events
-    pub accepted : Leads (meaning f) (cycles events) (wanted (meaning f) address bytes)
+    pub happened : part.trace f g events
+    pub accepted : Leads (part.meaning f) (cycles events) (wanted (part.meaning f) address bytes)
     pub costs : spent fewest (cycles events) ≡ cost
-    pub least : (l : List Cycle) → Leads (meaning f) l (wanted (meaning f) address bytes) → fewest.leq cost (spent fewest l) ≡ true
+    pub least : (l : List Cycle) → Leads (part.meaning f) l (wanted (part.meaning f) address bytes) → fewest.leq cost (spent fewest l) ≡ true
 
   -- an abandoned write: n cycles were sent, and after the last of them more polls were due than the limit; the limit's
   -- polls were made, and the image is the one that these cycles leave
   pub record AbandonedWrite (address : ℕ) (bytes : List ℕ) (limit n : ℕ) (f g : F) : Type 0 where
-    pub passes : Passes (meaning f) address (length bytes) limit
+    pub passes : Passes (part.meaning f) address (length bytes) limit
     -- the fence before its last cycle, and just after it
     pub before : F
     pub still : F
     pub events : List Event
     pub last : Cycle
-    pub happened : trace f before events
-    pub idle : (meaning before).due ≡ 0
-    pub sent : trace before still (carried last ∷ [])
+    pub happened : part.trace f before events
+    pub idle : (part.meaning before).due ≡ 0
+    pub sent : part.trace before still (carried last ∷ [])
     pub counted : n ≡ length (cycles events ++ last ∷ [])
-    pub beyond : limit < (meaning still).due
-    pub polled : trace still g (replicate limit polled)
-    pub accepted : Leads (meaning f) (cycles events ++ last ∷ []) (meaning g).image
+    pub beyond : limit < (part.meaning still).due
+    pub polled : part.trace still g (replicate limit polled)
+    pub accepted : Leads (part.meaning f) (cycles events ++ last ∷ []) (part.meaning g).image

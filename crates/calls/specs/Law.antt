@@ -1,6 +1,7 @@
 -- THE LAW of one call to a fence, in four sentences, and that a refused call alters nothing.
 use Rattle.std.specs.Prelude.{◌≡◌, ℕ, List, length}
 use Rattle.memory.specs.Page.{block}
+use Rattle.part.specs.declared.part.Part.{Ghosts}
 use Rattle.part.specs.Meaning.{Meaning, Event}
 use Rattle.fence.specs.declared.fence.Fence.{Fence}
 use Rattle.fence.specs.Closed.{fenced}
@@ -18,14 +19,18 @@ IsProtected (Written cost) = ⊥
 IsProtected (Refused refusal) = (row refusal).number ≡ 4
 IsProtected (Abandoned cycles) = ⊥
 
-module _ {P : Type 0} (meaning : P → Meaning) (trace : P → P → List Event → Type 0) where
+module _ {P : Type 0} (part : Ghosts P) where
   -- what a fence means
   abbrev pub meant : Fence P → Meaning
-  meant f = fenced (meaning f.part) f.closed
+  meant f = fenced (part.meaning f.part) f.closed
 
   -- what happened to the part below it, the closed sectors staying
   abbrev pub Traced : Fence P → Fence P → List Event → Type 0
-  Traced f g events = (g.closed ≡ f.closed) × trace f.part g.part events
+  Traced f g events = (g.closed ≡ f.closed) × part.trace f.part g.part events
+
+  -- a fence over the part, as a part
+  abbrev pub fencing : Ghosts (Fence P)
+  fencing = record { meaning = meant; trace = Traced; intact = λ f. part.intact f.part }
 
   -- a done read's buffer holds its range of the reference's image, while there is one
   abbrev pub ReadLaw : Reference → Request → List ℕ → Answer → Type 0
@@ -42,11 +47,11 @@ module _ {P : Type 0} (meaning : P → Meaning) (trace : P → P → List Event 
   abbrev pub EffectLaw : Fence P → Request → Answer → Fence P → Type 0
   EffectLaw f (closing sector) answer g = (g.part ≡ f.part)
   EffectLaw f (opening sector) answer g = (g.part ≡ f.part)
-  EffectLaw f (reading address n) answer g = (meant g ≡ meant f) × Unaltered meant Traced f g
+  EffectLaw f (reading address n) answer g = (meant g ≡ meant f) × Unaltered fencing f g
   EffectLaw f (writing address bytes limit) Done g = ⊥
-  EffectLaw f (writing address bytes limit) (Written cost) g = DoneWrite meant Traced address bytes limit cost f g
-  EffectLaw f (writing address bytes limit) (Refused refusal) g = Unaltered meant Traced f g
-  EffectLaw f (writing address bytes limit) (Abandoned cycles) g = AbandonedWrite meant Traced address bytes limit cycles f g
+  EffectLaw f (writing address bytes limit) (Written cost) g = DoneWrite fencing address bytes limit cost f g
+  EffectLaw f (writing address bytes limit) (Refused refusal) g = Unaltered fencing f g
+  EffectLaw f (writing address bytes limit) (Abandoned cycles) g = AbandonedWrite fencing address bytes limit cycles f g
 
   -- a write that passes the checks before protection is refused as protected exactly when nothing leads to what it wants
   abbrev pub ProtectedLaw : Fence P → Request → Answer → Type 0

@@ -7,7 +7,7 @@ use part::fault::PartFault;
 use writing::fault::WriteFault;
 
 // A call, with the buffers that the caller hands over for it.
-#[derive(Drop)]
+#[derive(PartialEq, Eq, Debug, Drop)]
 pub enum Call {
     Close {
         sector: usize,
@@ -28,7 +28,7 @@ pub enum Call {
 }
 
 // Why a call is refused. specs/Refusals.antt gives each case its layer, number and values.
-#[derive(Clone, Copy)]
+#[derive(Clone, Copy, PartialEq, Eq, Debug)]
 pub enum Refusal {
     // of a close, an open or a read
     Part(PartFault),
@@ -36,7 +36,7 @@ pub enum Refusal {
 }
 
 // No Result: an abandoned write is neither done nor refused.
-#[derive(Clone, Copy)]
+#[derive(Clone, Copy, PartialEq, Eq, Debug)]
 pub enum Answer {
     Done,
     // a done write: what it sent
@@ -71,7 +71,7 @@ impl From<Result<Cost, WriteFault>> for Answer {
 }
 
 // A call as it was handed in, but that a done read's buffer is filled, and its answer.
-#[derive(Drop)]
+#[derive(PartialEq, Eq, Debug, Drop)]
 pub struct Entry {
     pub call: Call,
     pub answer: Answer,

@@ -17,7 +17,7 @@ pub(crate) fn make<P: Part>(
     data: &mut [u8],
 ) -> Answer
     ensures recorded { Recorded call.old (entry call.new result) }
-    ensures follows { P.Part.intact fence.old.part → Follows P.Part.meaning P.Part.trace (length steps.old) (length «data».old) fence.old (entry call.new result) fence.new }
+    ensures follows { P.Part.intact fence.old.part → Follows P.Part (length steps.old) (length «data».old) fence.old (entry call.new result) fence.new }
     ensures intact { P.Part.intact fence.old.part → P.Part.intact fence.new.part }
 {
     match call {

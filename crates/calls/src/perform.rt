@@ -11,12 +11,14 @@ use part::part::Part;
 use std::alloc::Global;
 
 // The record of the calls that were made, and the fence as they left it.
+#[derive(Drop)]
 pub struct Performed<P> {
     pub record: Vec<Entry>,
     pub fence: Fence<P>,
 }
 
 // All that was handed in, where there was no memory for the record.
+#[derive(Drop)]
 pub struct Unperformed<P> {
     pub part: P,
     pub calls: Vec<Call>,
@@ -33,7 +35,7 @@ pub fn perform<P: Part>(
 ) -> Result<Performed<P>, Unperformed<P>>
     ensures { MatchResult result
         (λ d. Records calls.items d.record.items []
-        × (P.Part.intact part → Kept P.Part.meaning P.Part.trace (length steps.old) (length «data».old) part d.record.items d.fence))
+        × (P.Part.intact part → Kept P.Part (length steps.old) (length «data».old) part d.record.items d.fence))
         (λ u. (u.part ≡ part) × (u.calls ≡ calls) × (steps.new ≡ steps.old) × («data».new ≡ «data».old)) }
 {
     let Ok(mut record) = Vec::with_capacity(heap, calls.len()) else {

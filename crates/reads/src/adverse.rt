@@ -2,6 +2,7 @@
 // covers is not.
 use memory::model::PAGE_BYTES;
 use std::alloc::{AllocError, Global};
+use trials::picker::Picker;
 use trials::trial::{OPEN, Trial, fill};
 
 // One value over so many bytes from an address on.
@@ -18,59 +19,45 @@ impl Stretch {
     }
 }
 
-// A row of numbers that look picked at random, by the last of them.
-#[derive(Drop)]
-struct Picker {
-    last: usize,
+fn pick_status(picker: &mut Picker) -> u8 {
+    match picker.pick(8) {
+        0 => 0x84,
+        1 => 0xA4,
+        _ => 0x80,
+    }
 }
 
-impl Picker {
-    // A number below n.
-    fn pick(&mut self, n: usize) -> usize {
-        self.last = (self.last % 2147483648 * 1103515245 + 12345) % 2147483648;
-        self.last / 1024 % n.max(1)
+fn pick_value(picker: &mut Picker) -> u8 {
+    match picker.pick(6) {
+        0 => 0x00,
+        1 => 0x5A,
+        _ => 0xFF,
     }
+}
 
-    fn pick_status(&mut self) -> u8 {
-        match self.pick(8) {
-            0 => 0x84,
-            1 => 0xA4,
-            _ => 0x80,
-        }
+// Where a write begins and how long it is: mostly a few pages, often whole ones. What it covers is not FFh.
+fn pick_stretch(picker: &mut Picker, size: usize) -> Stretch {
+    let mut address = picker.pick(size);
+    let most = match picker.pick(3) {
+        0 => size,
+        _ => 8 * PAGE_BYTES,
+    };
+    let mut length = picker.pick(most);
+    if picker.pick(2) == 0 {
+        address = address / PAGE_BYTES * PAGE_BYTES;
+        length = length / PAGE_BYTES * PAGE_BYTES;
     }
-
-    fn pick_value(&mut self) -> u8 {
-        match self.pick(6) {
-            0 => 0x00,
-            1 => 0x5A,
-            _ => 0xFF,
-        }
-    }
-
-    // Where a write begins and how long it is: mostly a few pages, often whole ones. What it covers is not FFh.
-    fn pick_stretch(&mut self, size: usize) -> Stretch {
-        let mut address = self.pick(size);
-        let most = match self.pick(3) {
-            0 => size,
-            _ => 8 * PAGE_BYTES,
-        };
-        let mut length = self.pick(most);
-        if self.pick(2) == 0 {
-            address = address / PAGE_BYTES * PAGE_BYTES;
-            length = length / PAGE_BYTES * PAGE_BYTES;
-        }
-        Stretch {
-            address,
-            length: length.min(size.saturating_sub(address)),
-            value: self.pick_value() / 2,
-        }
+    Stretch {
+        address,
+        length: length.min(size.saturating_sub(address)),
+        value: pick_value(picker) / 2,
     }
 }
 
 // A memory of so many bytes and a write, by a number.
 pub(crate) fn make(heap: Global, size: usize, number: usize) -> Result<Trial, AllocError> {
-    let mut picker = Picker { last: number };
-    let covered = picker.pick_stretch(size);
+    let mut picker = Picker::new(number);
+    let covered = pick_stretch(&mut picker, size);
     let mut trial = Trial::blank(heap, size, OPEN, covered.address, covered.length)?;
     covered.fill(&mut trial.image);
     for _ in 0..picker.pick(4) {
@@ -79,7 +66,7 @@ pub(crate) fn make(heap: Global, size: usize, number: usize) -> Result<Trial, Al
     if picker.pick(4) > 0 {
         fill(&mut trial.image, size.saturating_sub(1), 1, 0);
     }
-    trial.bytes.fill(picker.pick_value());
-    trial.status = picker.pick_status();
+    trial.bytes.fill(pick_value(&mut picker));
+    trial.status = pick_status(&mut picker);
     Ok(trial)
 }

@@ -1,4 +1,5 @@
-// Writes to try on a memory.
+// Writes to try on a memory, and numbers to pick them by.
 #![tactic(auto)]
 
+pub mod picker;
 pub mod trial;

@@ -5,6 +5,7 @@ use Rattle.std.specs.Result.{IsErrAnd}
 use Rattle.std.proofs.lemmas.Result.{err_from_is_err_and}
 use Rattle.memory.specs.Page.{put}
 use Rattle.memory.specs.Cycle.{Cycle}
+use Rattle.part.specs.declared.part.Part.{Ghosts}
 use Rattle.part.specs.Meaning as of_part
 use Rattle.part.specs.Meaning.{Meaning, Event, Sound}
 use Rattle.part.specs.Verdict.{idle}
@@ -36,12 +37,12 @@ row_of (plans.Protected a) = refl
 row_of (plans.StepsShort c) = refl
 row_of (plans.DataShort c) = refl
 
-module _ {P : Type 0} (meaning : P → Meaning) (trace : P → P → List Event → Type 0) (intact : P → Type 0)
-    (stays : (s : P) → trace s s [])
-    (joins : (a b c : P) (l m : List Event) → trace a b l → trace b c m → trace a c (l ++ m))
+module _ {P : Type 0} (part : Ghosts P)
+    (stays : (s : P) → part.trace s s [])
+    (joins : (a b c : P) (l m : List Event) → part.trace a b l → part.trace b c m → part.trace a c (l ++ m))
   where
     -- the same, whatever buffer the steps point into
-    pub did_over : (sent sent' : List ℕ) (ys : List Cycle) (a b : P) → Did meaning trace intact sent ys a b → Did meaning trace intact sent' ys a b
+    pub did_over : (sent sent' : List ℕ) (ys : List Cycle) (a b : P) → Did part sent ys a b → Did part sent' ys a b
     did_over sent sent' ys a b d =
         record {
           events = d.events;
@@ -53,7 +54,7 @@ module _ {P : Type 0} (meaning : P → Meaning) (trace : P → P → List Event 
           keeps = d.keeps;
         }
 
-    did_looked : (sent : List ℕ) (a b : P) → Looked meaning trace intact a b → Did meaning trace intact sent [] a b
+    did_looked : (sent : List ℕ) (a b : P) → Looked part a b → Did part sent [] a b
     did_looked sent a b l =
         record {
           events = l.asked.0;
@@ -65,32 +66,32 @@ module _ {P : Type 0} (meaning : P → Meaning) (trace : P → P → List Event 
           keeps = l.keeps;
         }
 
-    polls-idle : (a b : P) → Polls meaning trace intact (meaning a).due a b → (meaning b).due ≡ 0
-    polls-idle a b p = let e : (meaning b).due ≡ (meaning a).due - (meaning a).due = ap (λ m. m.due) p.leaves in omega arith
+    polls-idle : (a b : P) → Polls part (part.meaning a).due a b → (part.meaning b).due ≡ 0
+    polls-idle a b p = let e : (part.meaning b).due ≡ (part.meaning a).due - (part.meaning a).due = ap (λ m. m.due) p.leaves in omega arith
 
-    sends-idle : {sent : List ℕ} {limit : ℕ} {a b : P} {l : List Step} → (meaning a).due ≡ 0 → Sends meaning trace intact sent limit a l b → (meaning b).due ≡ 0
+    sends-idle : {sent : List ℕ} {limit : ℕ} {a b : P} {l : List Step} → (part.meaning a).due ≡ 0 → Sends part sent limit a l b → (part.meaning b).due ≡ 0
     sends-idle e running.none = e
     sends-idle e (running.more {c = c} {d = d} sends idle step due wait) = polls-idle c d wait
 
     module _ (limit address : ℕ) (bytes : List ℕ) (steps steps' : List Step) (sent sent' : List ℕ) where
       abbrev Here : P → P → Result (ℕ × ℕ) WriteFault → Type 0
-      Here = Carried meaning trace intact limit address bytes (buffers steps steps' sent sent')
+      Here = Carried part limit address bytes (buffers steps steps' sent sent')
 
       abbrev answer : P → Answer
-      answer a = plan_over (meaning a) address bytes (length steps) (length sent)
+      answer a = plan_over (part.meaning a) address bytes (length steps) (length sent)
 
       -- what holds of an error holds of the one that `?` made of it
       pub carried_as : (a b : P) (r : Result (ℕ × ℕ) WriteFault) (fault : WriteFault) → IsErrAnd r (λ f. f ≡ fault) → Here a b (Err fault) → Here a b r
       carried_as a b r fault e h =
           let p = err_from_is_err_and r e in rw (p.1, p.2) h
 
-      handed : (a : P) (r : Result (ℕ × ℕ) PlanFault) → idle (meaning a) ≡ true
-          → Handed (plan_call (meaning a) address bytes (length steps) (length sent)) r steps steps' sent sent'
+      handed : (a : P) (r : Result (ℕ × ℕ) PlanFault) → idle (part.meaning a) ≡ true
+          → Handed (plan_call (part.meaning a) address bytes (length steps) (length sent)) r steps steps' sent sent'
           → Handed (answer a) r steps steps' sent sent'
-      handed a r q h = rw (call_idle (meaning a) address bytes (length steps) (length sent) q) at h
+      handed a r q h = rw (call_idle (part.meaning a) address bytes (length steps) (length sent) q) at h
 
-      pub carried-unplanned : (a b : P) (fault : PlanFault) → (meaning a).due ≡ 0 → Looked meaning trace intact a b
-          → Handed (plan_call (meaning a) address bytes (length steps) (length sent)) (Err fault) steps steps' sent sent'
+      pub carried-unplanned : (a b : P) (fault : PlanFault) → (part.meaning a).due ≡ 0 → Looked part a b
+          → Handed (plan_call (part.meaning a) address bytes (length steps) (length sent)) (Err fault) steps steps' sent sent'
           → Here a b (Err (unplanned_as fault))
       carried-unplanned a b fault q look h = go (answer a) refl (handed a (Err fault) (eq-eqb _ _ q) h)
         where
@@ -107,14 +108,14 @@ module _ {P : Type 0} (meaning : P → Meaning) (trace : P → P → List Event 
         pub is : answer a ≡ planned cost list fresh
         pub filled : Filled (buffers steps steps' sent sent') list fresh
         pub counts : cost ≡ (length list, length fresh)
-        pub least : LeastBy (meaning a).shape (of_part.protected_at (meaning a)) (meaning a).image (put address bytes (meaning a).image) (cycles_of fresh list) cost
+        pub least : LeastBy (part.meaning a).shape (of_part.protected_at (part.meaning a)) (part.meaning a).image (put address bytes (part.meaning a).image) (cycles_of fresh list) cost
 
-      pub handed_plan : (a : P) (cost : ℕ × ℕ) → Sound (meaning a) → ((i : ℕ) → get_or bytes i 0 < 256) → idle (meaning a) ≡ true
-          → Handed (plan_call (meaning a) address bytes (length steps) (length sent)) (Ok cost) steps steps' sent sent' → Plan a cost
+      pub handed_plan : (a : P) (cost : ℕ × ℕ) → Sound (part.meaning a) → ((i : ℕ) → get_or bytes i 0 < 256) → idle (part.meaning a) ≡ true
+          → Handed (plan_call (part.meaning a) address bytes (length steps) (length sent)) (Ok cost) steps steps' sent sent' → Plan a cost
       handed_plan a cost S small q h = go (answer a) refl (handed a (Ok cost) q h)
         where
           by : (cost : ℕ × ℕ) (list : List Step) (fresh : List ℕ) → answer a ≡ planned cost list fresh → Filled (buffers steps steps' sent sent') list fresh
-              → Says (meaning a).shape (of_part.protected_at (meaning a)) (meaning a).image address bytes (length steps) (length sent) (planned cost list fresh)
+              → Says (part.meaning a).shape (of_part.protected_at (part.meaning a)) (part.meaning a).image address bytes (length steps) (length sent) (planned cost list fresh)
               → Plan a cost
           by _ _ _ e f (written cost list fresh inside least counts few short) =
               record { list = list; fresh = fresh; is = e; filled = f; counts = counts; least = least }
@@ -124,8 +125,8 @@ module _ {P : Type 0} (meaning : P → Meaning) (trace : P → P → List Event 
           go (planned cost' list fresh) e t =
               let u : cost' ≡ cost = cc in
               let e' : answer a ≡ planned cost list fresh = e ∙ ap (λ (c : ℕ × ℕ). planned c list fresh) u in
-              let s = subst (λ (x : Answer). Says (meaning a).shape (of_part.protected_at (meaning a)) (meaning a).image address bytes (length steps) (length sent) x) e'
-              (writes_answered (meaning a).shape (of_part.protected_at (meaning a)) (meaning a).image S.imaged address bytes small (length steps) (length sent)) in
+              let s = subst (λ (x : Answer). Says (part.meaning a).shape (of_part.protected_at (part.meaning a)) (part.meaning a).image address bytes (length steps) (length sent) x) e'
+              (writes_answered (part.meaning a).shape (of_part.protected_at (part.meaning a)) (part.meaning a).image S.imaged address bytes small (length steps) (length sent)) in
               by cost list fresh e' (t.1, t.2) s
 
       -- what becomes of a run's answer
@@ -133,45 +134,45 @@ module _ {P : Type 0} (meaning : P → Meaning) (trace : P → P → List Event 
       ended cost (Ok n) = Ok cost
       ended cost (Err fault) = Err (unrun_as fault)
 
-      module _ (a mid : P) (cost : ℕ × ℕ) (plan : Plan a cost) (q : (meaning a).due ≡ 0) (on' : allowed limit ≡ true) (i : intact a)
-          (look : Looked meaning trace intact a mid) where
+      module _ (a mid : P) (cost : ℕ × ℕ) (plan : Plan a cost) (q : (part.meaning a).due ≡ 0) (on' : allowed limit ≡ true) (i : part.intact a)
+          (look : Looked part a mid) where
         abbrev list : List Step
         list = plan.list
 
         abbrev fresh : List ℕ
         fresh = plan.fresh
 
-        idle_mid : (meaning mid).due ≡ 0
+        idle_mid : (part.meaning mid).due ≡ 0
         idle_mid = ap (λ m. m.due) look.same ∙ q
 
         made : Made list fresh
-        made = planned-made cost list fresh (meaning a).shape (of_part.protected_at (meaning a)) (meaning a).image address bytes (length steps) (length sent) plan.is
+        made = planned-made cost list fresh (part.meaning a).shape (of_part.protected_at (part.meaning a)) (part.meaning a).image address bytes (length steps) (length sent) plan.is
 
         -- the look, the polls of the run, and the steps that were sent
-        so_far : {x y : P} {l : List Step} → Polls meaning trace intact (meaning mid).due mid x → Sends meaning trace intact fresh limit x l y
-            → Did meaning trace intact fresh (cycles_of fresh l) a y
+        so_far : {x y : P} {l : List Step} → Polls part (part.meaning mid).due mid x → Sends part fresh limit x l y
+            → Did part fresh (cycles_of fresh l) a y
         so_far {x = x} {y = y} {l = l} wait sends =
-            did_join meaning trace intact stays joins fresh [] (cycles_of fresh l) a mid y (did_looked fresh a mid look)
-            (did_join meaning trace intact stays joins fresh [] (cycles_of fresh l) mid x y (did_polls meaning trace intact stays joins fresh _ mid x wait)
-            (sends_did meaning trace intact stays joins fresh sends))
+            did_join part stays joins fresh [] (cycles_of fresh l) a mid y (did_looked fresh a mid look)
+            (did_join part stays joins fresh [] (cycles_of fresh l) mid x y (did_polls part stays joins fresh _ mid x wait)
+            (sends_did part stays joins fresh sends))
 
-        pub carried_run : (to : P) (r : Result ℕ RunFault) → Ran meaning trace intact fresh limit list mid to r → Here a to (ended cost r)
+        pub carried_run : (to : P) (r : Result ℕ RunFault) → Ran part fresh limit list mid to r → Here a to (ended cost r)
         carried_run to _ (running.no_limit off same) = absurd (both_ways _ off on')
         carried_run to _ (running.still-busy on due wait) = absurd (omega (arith, due, idle_mid))
         carried_run to _ (running.ran {a = x} on due wait sends) =
             wrote.written cost list fresh plan.is plan.filled (did_over fresh [] _ a to (so_far wait sends)) (sends-idle (polls-idle mid x wait) sends)
         carried_run to _ (running.refused {a = x} {b = y} on due wait k s fault lt split sends idle turned) =
             let d = so_far wait sends in
-            absurd (unrefused (meaning a) (meaning y) list fresh (put address bytes (meaning a).image) k s fault made plan.least.goes lt split
+            absurd (unrefused (part.meaning a) (part.meaning y) list fresh (put address bytes (part.meaning a).image) k s fault made plan.least.goes lt split
             d.shape d.guarded idle (d.goes i).1 (turned.verdict (d.keeps i)))
         carried_run to _ (running.abandoned {a = x} {b = y} {c = still} on due wait k s lt split sends idle step over stop) =
             abandoned k s cost list fresh plan.is plan.filled lt split (did_over fresh [] _ a y (so_far wait sends)) idle step over stop
 
       -- a plan that was handed out, and the run of the buffers' fronts, as long as its cost says
-      pub carried-ran : (a mid to : P) (cost : ℕ × ℕ) (n d : ℕ) (r : Result ℕ RunFault) → Sound (meaning a) → ((i : ℕ) → get_or bytes i 0 < 256)
-          → allowed limit ≡ true → (meaning a).due ≡ 0 → intact a → Looked meaning trace intact a mid
-          → Handed (plan_call (meaning a) address bytes (length steps) (length sent)) (Ok cost) steps steps' sent sent'
-          → ◌≡◌ {A = ℕ × ℕ} (n, d) cost → Ran meaning trace intact (take d sent') limit (take n steps') mid to r → Here a to (ended cost r)
+      pub carried-ran : (a mid to : P) (cost : ℕ × ℕ) (n d : ℕ) (r : Result ℕ RunFault) → Sound (part.meaning a) → ((i : ℕ) → get_or bytes i 0 < 256)
+          → allowed limit ≡ true → (part.meaning a).due ≡ 0 → part.intact a → Looked part a mid
+          → Handed (plan_call (part.meaning a) address bytes (length steps) (length sent)) (Ok cost) steps steps' sent sent'
+          → ◌≡◌ {A = ℕ × ℕ} (n, d) cost → Ran part (take d sent') limit (take n steps') mid to r → Here a to (ended cost r)
       carried-ran a mid to cost n d r S small on' q i look h e x =
           let plan = handed_plan a cost S small (eq-eqb _ _ q) h in
           let counts : ◌≡◌ {A = ℕ × ℕ} (n, d) (length plan.list, length plan.fresh) = e ∙ plan.counts in

@@ -1,6 +1,7 @@
 -- What a write does and answers.
 use Rattle.std.specs.Prelude.{◌≡◌, ℕ, ◌+◌, ◌<◌, ◌≤◌, true, false, List, [], ◌∷◌, ◌++◌, length, take, drop, Ok, Err, Result}
 use Rattle.memory.specs.Shape.{size}
+use Rattle.part.specs.declared.part.Part.{Ghosts}
 use Rattle.part.specs.Meaning as of_part
 use Rattle.part.specs.Meaning.{Meaning, Event}
 use Rattle.least.specs.declared.step.Step.{Step}
@@ -35,39 +36,39 @@ Left b = (b.steps' ≡ b.steps) × (b.sent' ≡ b.sent)
 abbrev pub Filled : Buffers → List Step → List ℕ → Type 0
 Filled b list fresh = (b.steps' ≡ list ++ drop (length list) b.steps) × (b.sent' ≡ fresh ++ drop (length fresh) b.sent)
 
-module _ {P : Type 0} (meaning : P → Meaning) (trace : P → P → List Event → Type 0) (intact : P → Type 0) where
+module _ {P : Type 0} (part : Ghosts P) where
   module _ (limit address : ℕ) (bytes : List ℕ) (b : Buffers) where
     -- a write to a part with nothing due
     pub data Carried (from to : P) : Result (ℕ × ℕ) WriteFault → Type 0 where
       -- planning refuses it: nothing is sent, and all is as it was
       unplanned : (fault : WriteFault)
-          → plan_over (meaning from) address bytes (length b.steps) (length b.sent) ≡ refused (row fault)
-          → Did meaning trace intact [] [] from to → meaning to ≡ meaning from → Left b → Carried from to (Err fault)
+          → plan_over (part.meaning from) address bytes (length b.steps) (length b.sent) ≡ refused (row fault)
+          → Did part [] [] from to → part.meaning to ≡ part.meaning from → Left b → Carried from to (Err fault)
       -- the plan was sent, and nothing is due
       written : (cost : ℕ × ℕ) (list : List Step) (fresh : List ℕ)
-          → plan_over (meaning from) address bytes (length b.steps) (length b.sent) ≡ planned cost list fresh
-          → Filled b list fresh → Did meaning trace intact [] (cycles_of fresh list) from to → (meaning to).due ≡ 0 → Carried from to (Ok cost)
+          → plan_over (part.meaning from) address bytes (length b.steps) (length b.sent) ≡ planned cost list fresh
+          → Filled b list fresh → Did part [] (cycles_of fresh list) from to → (part.meaning to).due ≡ 0 → Carried from to (Ok cost)
       -- its cycles up to this step's were sent, the last of them with nothing due, after which more polls were due than the
       -- limit's, which were made
       abandoned : {before still : P} (k : ℕ) (s : Step) (cost : ℕ × ℕ) (list : List Step) (fresh : List ℕ)
-          → plan_over (meaning from) address bytes (length b.steps) (length b.sent) ≡ planned cost list fresh
+          → plan_over (part.meaning from) address bytes (length b.steps) (length b.sent) ≡ planned cost list fresh
           → Filled b list fresh → k < length list → take (k + 1) list ≡ take k list ++ s ∷ []
-          → Did meaning trace intact [] (cycles_of fresh (take k list)) from before → (meaning before).due ≡ 0
-          → Carries meaning trace intact fresh s before still → limit < (meaning still).due → Polls meaning trace intact limit still to
+          → Did part [] (cycles_of fresh (take k list)) from before → (part.meaning before).due ≡ 0
+          → Carries part fresh s before still → limit < (part.meaning still).due → Polls part limit still to
           → Carried from to (Err (Abandoned (k + 1)))
 
     -- a write to any part
     pub data Wrote (from to : P) : Result (ℕ × ℕ) WriteFault → Type 0 where
       no_limit : allowed limit ≡ false → to ≡ from → Left b → Wrote from to (Err (Limit limit))
-      outside : allowed limit ≡ true → size (meaning from).shape < address + length bytes → to ≡ from → Left b
+      outside : allowed limit ≡ true → size (part.meaning from).shape < address + length bytes → to ≡ from → Left b
           → Wrote from to (Err (Outside address))
       -- the limit's polls were made, and more were due
-      still-busy : allowed limit ≡ true → address + length bytes ≤ size (meaning from).shape → limit < (meaning from).due
-          → Polls meaning trace intact limit from to → Left b → Wrote from to (Err (StillBusy limit))
+      still-busy : allowed limit ≡ true → address + length bytes ≤ size (part.meaning from).shape → limit < (part.meaning from).due
+          → Polls part limit from to → Left b → Wrote from to (Err (StillBusy limit))
       -- else what was due was waited for
-      waited : {idle : P} {r : Result (ℕ × ℕ) WriteFault} → allowed limit ≡ true → address + length bytes ≤ size (meaning from).shape
-          → (meaning from).due ≤ limit → Polls meaning trace intact (meaning from).due from idle
+      waited : {idle : P} {r : Result (ℕ × ℕ) WriteFault} → allowed limit ≡ true → address + length bytes ≤ size (part.meaning from).shape
+          → (part.meaning from).due ≤ limit → Polls part (part.meaning from).due from idle
           -- and what planning then answers is so
-          → Says (meaning idle).shape (of_part.protected_at (meaning idle)) (meaning idle).image address bytes (length b.steps) (length b.sent)
-          (plan_over (meaning idle) address bytes (length b.steps) (length b.sent))
-          → (intact from → Carried idle to r) → Wrote from to r
+          → Says (part.meaning idle).shape (of_part.protected_at (part.meaning idle)) (part.meaning idle).image address bytes (length b.steps) (length b.sent)
+          (plan_over (part.meaning idle) address bytes (length b.steps) (length b.sent))
+          → (part.intact from → Carried idle to r) → Wrote from to r

@@ -23,9 +23,11 @@ fn carry_out<P: Part>(
     data: &mut [u8],
     limit: usize,
 ) -> Result<Cost, WriteFault>
-    requires idle { (allowed limit ≡ true) × (address + length bytes.now ≤ size (P.Part.meaning part.old).shape) × ((P.Part.meaning part.old).due ≡ 0) }
+    requires limited { allowed limit ≡ true }
+    requires inside { address + length bytes.now ≤ size (P.Part.meaning part.old).shape }
+    requires idle { (P.Part.meaning part.old).due ≡ 0 }
     requires byte { (i : ℕ) → slice_index bytes.now i < 256 }
-    ensures { P.Part.intact part.old → Carried P.Part.meaning P.Part.trace P.Part.intact limit address bytes.now (buffers steps.old steps.new «data».old «data».new) part.old part.new result }
+    ensures { P.Part.intact part.old → Carried P.Part limit address bytes.now (buffers steps.old steps.new «data».old «data».new) part.old part.new result }
 {
     let cost = plan(part, address, bytes, steps, data)?;
     let (cycles, sent) = cost;
@@ -45,7 +47,7 @@ pub fn write<P: Part>(
     data: &mut [u8],
     limit: usize,
 ) -> Result<Cost, WriteFault>
-    ensures { Wrote P.Part.meaning P.Part.trace P.Part.intact limit address bytes.now (buffers steps.old steps.new «data».old «data».new) part.old part.new result }
+    ensures { Wrote P.Part limit address bytes.now (buffers steps.old steps.new «data».old «data».new) part.old part.new result }
 {
     if !is_limit(limit) {
         return Err(WriteFault::Limit(limit));

@@ -11,7 +11,7 @@ loop-call-init g c =
       tt,
       rw made.items refl,
       omega (arith, made.len, made.capacity, c.len.ensures, c.into_iter-call-iterator.ensures.into_iter_gives.1),
-      λ i. (rw (made.items, c.new-fence.ensures) (so_far_none _ _ _ _ c.args.part), i),
+      λ i. (rw (made.items, c.new-fence.ensures) (so_far_none _ _ _ c.args.part), i),
     )
 
 pub loop-call-preserved : goal.loop-call-preserved
@@ -26,7 +26,7 @@ loop-call-preserved g c =
       omega (arith, inv.3, step.1, pushed.len, pushed.capacity),
       λ i.
           let h = inv.4 i in (
-            rw pushed.items (so_far_more _ _ _ _ _ _ _ _ _ h.0 (rw (c.loop-call.auto.steps, c.loop-call.auto.data) at made.follows h.1)),
+            rw pushed.items (so_far_more _ _ _ _ _ _ _ _ h.0 (rw (c.loop-call.auto.steps, c.loop-call.auto.data) at made.follows h.1)),
             made.intact h.1,
           ),
     )

@@ -11,5 +11,5 @@ invariant-loop-call g l =
     × Records (into_iter_items l.initial.call-iterator) (vec_items l.«record») (into_iter_items l.call-iterator)
     × (vec_len l.«record» + into_iter_len l.call-iterator ≤ vec_capacity l.«record»)
     × (g.P.Part.intact l.initial.fence.part
-    → SoFar g.P.Part.meaning g.P.Part.trace (length l.initial.steps) (length l.initial.«data») l.initial.fence.part (vec_items l.«record») l.fence
+    → SoFar g.P.Part (length l.initial.steps) (length l.initial.«data») l.initial.fence.part (vec_items l.«record») l.fence
     × g.P.Part.intact l.fence.part)

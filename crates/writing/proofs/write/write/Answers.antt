@@ -15,13 +15,13 @@ returns-then-not-is_inside g c = outside (grind (arith, nat_tests)) (grind (arit
 pub returns-then-not-wait : goal.returns-then-not-wait
 returns-then-not-wait g c =
     let w = c.if-not-wait.ensures in
-    let p = polled-short _ _ _ g.met.P.Part.stays g.met.P.Part.joins _ _ _ w.idle w.polls in
+    let p = polled-short _ g.met.P.Part.stays g.met.P.Part.joins _ _ _ w.idle w.polls in
     still-busy (grind (arith, nat_tests)) (grind (arith, nat_tests)) p.0 p.1 (refl, refl)
 
 pub returns : goal.returns
 returns g c =
     let w = c.if-not-wait.ensures in
-    let p = polled_out _ _ _ g.met.P.Part.stays g.met.P.Part.joins _ _ _ w.idle w.polls in
+    let p = polled_out _ g.met.P.Part.stays g.met.P.Part.joins _ _ _ w.idle w.polls in
     let n = g.P.Part.meaning c.wait.new.part in
     let says = writes_answered n.shape (protected_at n) n.image (g.met.P.Part.sound _).imaged c.args.address c.args.bytes.now
     (λ i. (c.type_inv.bytes i).fits) (length c.args.steps.now) (length c.args.data.now) in
