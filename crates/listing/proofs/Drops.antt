@@ -22,12 +22,6 @@ module _ (t : List ℕ) (i : ℕ) {o : Option ℕ} (e : o ≡ pair_of (take (len
   pub pair_at : pair_of (drop i t) ≡ o
   pair_at = sym (e ∙ ap pair_of (take_rest t i))
 
-  pub no_pair : {f : ListingFault} (g : ListingFault) → Err f ≡ ok_or o g → (pair_of (drop i t) ≡ None) × (f ≡ g)
-  no_pair {f} g l = let n = lacked o g f l in (pair_at ∙ n.0, n.1)
-
-  pub one_pair : {x : ℕ} (g : ListingFault) → Ok x ≡ ok_or o g → pair_of (drop i t) ≡ Some x
-  one_pair {x} g h = pair_at ∙ had o g x h
-
 -- a part of a text that something stands in reaches into the text
 pub reaches : (t : List ℕ) (i k : ℕ) → 0 < k → k ≤ length (take (length t - i) (drop i t)) → i + k ≤ length t
 reaches t i k p h =

@@ -13,7 +13,9 @@ fn count_pairs(pairs: &[u8]) -> Result<usize, ListingFault>
     // By chunks of three a space at the end, with no pair after it, would need a test of its own.
     let mut at = 0;
     loop {
-        pair(&pairs[at..]).ok_or(ListingFault::after(1, at))?;
+        let Some(_) = pair(&pairs[at..]) else {
+            return Err(ListingFault::after(1, at));
+        };
         match pairs.get(at + 2) {
             None => return Ok(at / 3 + 1),
             Some(b' ') => at += 3,

@@ -1,4 +1,5 @@
-// Reading a listing line by line.
+// Reading a listing line by line. A rule of the project: each pair is taken by `let .. else`, which answers the line and the column
+// where there is none.
 ghost use Rattle.std.specs.Prelude.{◌≡◌, ℕ, ◌+◌, ◌-◌, ◌^◌, ◌<◌, ◌≤◌, List, [], ◌∷◌, length, drop, Ok, Err, MatchResult};
 ghost use Rattle.listing.specs.declared.fault.ListingFault.TheVariants.{Malformed};
 ghost use Rattle.listing.specs.Parts.{spot, part_of, spot_of, spots_of};
@@ -59,7 +60,9 @@ impl<'a> Reader<'a> {
         // `at` is also the place that is told, so an iterator would have to count beside it.
         let mut at = 0;
         loop {
-            pair(&rest[at..]).ok_or(self.stuck(at))?;
+            let Some(_) = pair(&rest[at..]) else {
+                return Err(self.stuck(at));
+            };
             at += 2;
             if !goes_on(&rest[at..]) {
                 return Ok(at);
@@ -78,10 +81,9 @@ impl<'a> Reader<'a> {
             return Err(self.stuck(gap));
         };
         let digits = gap + 1;
-        match pair(&rest[digits..]) {
-            Some(LEAST_COUNT..) => {}
-            _ => return Err(self.stuck(digits)),
-        }
+        let Some(LEAST_COUNT..) = pair(&rest[digits..]) else {
+            return Err(self.stuck(digits));
+        };
         let end = digits + 2;
         let Some(b'\n') = rest.get(end) else {
             return Err(self.stuck(end));
