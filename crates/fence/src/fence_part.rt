@@ -7,11 +7,12 @@ ghost use Rattle.fence.specs.Closed.{barred_by, bars, fenced, is_closed};
 ghost use Rattle.fence.specs.Barring.{fenced-sound};
 
 use crate::fence::Fence;
+use memory::geometry::Geometry;
 use memory::kind::Kind;
 use part::fault::PartFault;
 use part::part::Part;
 use part::refusal::{barred, fills_page};
-use part::size::{geometry_of, is_within, size_of};
+use part::size::{is_within, size_of};
 
 impl<P: Part> Fence<P> {
     // If no sector is closed.
@@ -29,7 +30,7 @@ impl<P: Part> Fence<P> {
         match kind {
             Kind::BulkErase => !self.is_open(),
             Kind::Program | Kind::Alter | Kind::Preset | Kind::SectorErase => self.is_closed(
-                geometry_of(&self.part).sector_of(address),
+                self.part.geometry().sector_of(address),
             ),
         }
     }
@@ -65,12 +66,8 @@ impl<P: Part> Part for Fence<P> {
 
     ghost joins = { λ a b c l m p q. (q.0 ∙ p.0, P.Part.joins _ _ _ _ _ p.1 q.1) };
 
-    fn sectors(&self) -> usize {
-        self.part.sectors()
-    }
-
-    fn pages(&self) -> usize {
-        self.part.pages()
+    fn geometry(&self) -> Geometry {
+        self.part.geometry()
     }
 
     fn is_busy(&self) -> bool {

@@ -11,6 +11,7 @@ ghost use Rattle.part.specs.Playing.{played-++};
 use crate::fault::PartFault;
 use crate::part::Part;
 use crate::plain::PlainImage;
+use memory::geometry::Geometry;
 use memory::kind::Kind;
 
 impl Part for PlainImage {
@@ -38,12 +39,8 @@ impl Part for PlainImage {
 
     ghost joins = { λ a b c l m p q. played-++ p q };
 
-    fn sectors(&self) -> usize {
-        self.image.geometry.sectors
-    }
-
-    fn pages(&self) -> usize {
-        self.image.geometry.pages
+    fn geometry(&self) -> Geometry {
+        self.image.geometry
     }
 
     fn is_busy(&self) -> bool {

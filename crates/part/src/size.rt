@@ -1,27 +1,16 @@
 // How large a part is, and what lies inside.
 ghost use Rattle.std.specs.Prelude.{◌≡◌, ◌+◌, nat_le};
-ghost use Rattle.memory.specs.Shape.{shaped, size};
+ghost use Rattle.memory.specs.Shape.{size};
 ghost use Rattle.part.specs.Verdict.{within};
 
 use crate::part::Part;
-use memory::geometry::Geometry;
 use memory::kind::Kind;
-
-// How the part is divided.
-pub fn geometry_of<P: Part>(part: &P) -> Geometry
-    ensures { shaped result.sectors result.pages ≡ (P.Part.meaning part.now).shape }
-{
-    Geometry {
-        sectors: part.sectors(),
-        pages: part.pages(),
-    }
-}
 
 // How many bytes the part has.
 pub fn size_of<P: Part>(part: &P) -> usize
     ensures { result ≡ size (P.Part.meaning part.now).shape }
 {
-    geometry_of(part).size()
+    part.geometry().size()
 }
 
 // Whether n bytes from an address on are among so many.
