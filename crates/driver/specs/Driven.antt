@@ -8,7 +8,7 @@ use Rattle.memory.specs.declared.kind.Kind.{Kind}
 use Rattle.memory.specs.declared.kind.Kind.TheVariants as of_kind
 use Rattle.memory.specs.Shape.{Shape, size}
 use Rattle.memory.specs.Page.{page, blank}
-use Rattle.memory.specs.Cycle.{Cycle, cycle_of, effect}
+use Rattle.memory.specs.Cycle.{Cycle, cycle_of, effect, permits}
 use Rattle.memory.specs.Image.{reaches}
 use Rattle.memory.proofs.Sizes.{page-fits}
 use Rattle.port.specs.Chip as of_chip
@@ -18,7 +18,7 @@ use Rattle.part.specs.declared.outline.Outline.{Outline}
 use Rattle.part.specs.Meaning as of_part
 use Rattle.part.specs.Meaning.{Meaning, Event, asked, carried, polled, cycles, polls}
 use Rattle.part.specs.Outline.{outlined, guards, guarding}
-use Rattle.part.specs.Verdict.{inside, fills, permits, presets, idle}
+use Rattle.part.specs.Verdict.{inside, fills, presets, idle}
 use Rattle.part.proofs.Refusals.{reaches_in}
 use Rattle.driver.specs.Frames.{Sendable, status_frame, enable_frame, cycle_frame, looks}
 use Rattle.driver.specs.Carries.{Carries, Harmless, none, step, status_reads, carried_out}

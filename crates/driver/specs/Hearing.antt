@@ -1,4 +1,4 @@
--- What the chip hears of each frame that a driver sends, and what comes of it.
+-- What each frame that a driver sends asks of the chip (`hears`), and what comes of it.
 use Rattle.std.specs.Prelude.{◌≡◌, ℕ, ◌+◌, ◌-◌, ◌%◌, ◌<◌, Bool, true, false, cond, List, [], ◌∷◌, length, ◌==◌, bit_and, nat_lt, refl}
 use Rattle.std.proofs.Common.{ap, ◌∙◌, arith}
 use Rattle.std.proofs.lemmas.Nat.{and_mask, and_mod, and_le_r}

@@ -7,7 +7,7 @@ use Rattle.memory.specs.declared.kind.Kind.TheVariants as of_kind
 use Rattle.memory.specs.Shape.{Shape, size, sector_at}
 use Rattle.memory.specs.Page.{page, blank}
 use Rattle.memory.specs.Protection.{protects}
-use Rattle.memory.specs.Cycle.{Cycle, cycle_of, effect}
+use Rattle.memory.specs.Cycle.{Cycle, cycle_of, effect, permits}
 use Rattle.memory.specs.Image.{reaches}
 use Rattle.port.specs.declared.instruction.Operation.TheVariants.{WriteEnable, Program, Alter, Preset, SectorErase}
 use Rattle.port.specs.Instructions.{table}
@@ -17,7 +17,7 @@ use Rattle.port.specs.Machine.{enable, cycle, unknown, heard, hears, ordered, ac
 use Rattle.port.proofs.Building.{understood}
 use Rattle.part.specs.declared.outline.Outline.{Outline}
 use Rattle.part.specs.Outline.{outlined, guarding}
-use Rattle.part.specs.Verdict.{inside, fills, permits, presets}
+use Rattle.part.specs.Verdict.{inside, fills, presets}
 use Rattle.part.specs.Guards.{guard_at, free-guards}
 use Rattle.driver.specs.Frames.{Sendable, largest, enable_frame, cycle_frame, looks}
 use Rattle.port.specs.Operations.{operation_of}

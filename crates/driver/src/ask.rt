@@ -10,7 +10,8 @@ use port::port::Port;
 // A page cycle: a code, three bytes of address and a page of data. Every port carries it.
 const MOST_SENT: usize = 68;
 
-// Sends a frame that the port can carry. There is no heap: the frame takes up a part of a buffer.
+// Sends a frame that the port can carry, and fills `back` with the answer. There is no heap: the frame is the first part of a
+// buffer of fixed length.
 pub(crate) fn ask<P: Port>(
     port: &mut P,
     operation: Operation,

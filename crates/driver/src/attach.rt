@@ -14,7 +14,8 @@ use part::limit::is_limit;
 use part::outline::Outline;
 use port::port::Port;
 
-// What an idle chip says of itself. A port's chip is always one that is known.
+// Asks an idle chip what it is: its identification tells the geometry, its status byte the protection. A port's chip is always
+// one of the known models.
 fn learn<P: Port>(port: &mut P) -> Outline
     requires { (P.Port.chip port.old).busy ≡ 0 }
     ensures learnt { Intact result (P.Port.chip port.old) }
@@ -30,7 +31,8 @@ fn learn<P: Port>(port: &mut P) -> Outline
     }
 }
 
-// Why there is no driver, and the port handed back.
+// Why there is no driver, and the port handed back. Memory's `Unmade` hands back bytes: two types, since in each the field
+// says what comes back.
 #[derive(Drop)]
 pub struct Unattached<P> {
     pub fault: AttachFault,

@@ -9,11 +9,12 @@ use crate::ask::ask;
 use crate::read::read;
 use memory::bytes::is_blank;
 use memory::kind::Kind;
-use memory::model::PAGE_BYTES;
+use memory::model::{PAGE_BYTES, page_start};
 use port::instruction::Operation;
 use port::port::Port;
 
-// If the page is as a cycle of this kind needs it: a preset looks at its page.
+// If the page is as a cycle of this kind needs it: a preset reads its page. A plain image has a function of this name, which
+// looks at its own bytes.
 pub(crate) fn is_clean_for<P: Port>(port: &mut P, kind: Kind, address: usize) -> bool
     requires { inside largest kind address ≡ true }
     ensures others { result ≡ presets kind result }
@@ -21,17 +22,15 @@ pub(crate) fn is_clean_for<P: Port>(port: &mut P, kind: Kind, address: usize) ->
     ensures chip { P.Port.chip port.new ≡ P.Port.chip port.old }
     ensures trace { P.Port.trace port.old port.new (looks (P.Port.longest port.old - 4) kind address) }
 {
-    match kind {
-        Kind::Preset => {
-            let mut page = [0; PAGE_BYTES];
-            read(port, address / PAGE_BYTES * PAGE_BYTES, &mut page);
-            is_blank(&page)
-        }
-        Kind::Program | Kind::Alter | Kind::SectorErase | Kind::BulkErase => true,
+    if kind != Kind::Preset {
+        return true;
     }
+    let mut page = [0; PAGE_BYTES];
+    read(port, page_start(address), &mut page);
+    is_blank(&page)
 }
 
-// Write enable, and the frame of the cycle.
+// Sends write enable, and then the frame of the cycle.
 pub(crate) fn send<P: Port>(port: &mut P, kind: Kind, address: usize, data: &[u8])
     requires { Sendable kind address (length «data».now) }
     ensures chip { P.Port.chip port.new ≡ after (P.Port.chip port.new).busy (after 0 (P.Port.chip port.old) enable_frame) (cycle_frame kind address «data».now) }

@@ -8,6 +8,7 @@ use crate::cycle::{is_clean_for, send};
 use crate::driver::Driver;
 use crate::poll::is_busy;
 use crate::read::read;
+use memory::geometry::Geometry;
 use memory::kind::Kind;
 use part::fault::PartFault;
 use part::part::Part;
@@ -31,12 +32,8 @@ impl<P: Port> Part for Driver<P> {
       drives-++ a.outline b.outline c.outline _ _ _ p.0 q.0 l m p.2 q.2,
     ) };
 
-    fn sectors(&self) -> usize {
-        self.outline.geometry.sectors
-    }
-
-    fn pages(&self) -> usize {
-        self.outline.geometry.pages
+    fn geometry(&self) -> Geometry {
+        self.outline.geometry
     }
 
     fn is_busy(&self) -> bool {

@@ -11,7 +11,8 @@ use port::port::Port;
 // Bit 0 of the status byte: a cycle is in progress.
 const WIP: u8 = 0x01;
 
-// The status byte. Bit 1 has no rule while the chip is busy: it is the one that came back.
+// One status read, and the byte that came back. While the chip is busy no rule says what bit 1 shows, so the contract takes
+// that bit from the byte.
 pub(crate) fn status<P: Port>(port: &mut P) -> u8
     ensures byte { result ≡ shown result (P.Port.chip port.old) }
     ensures chip { P.Port.chip port.new ≡ waited (P.Port.chip port.old) }
@@ -22,7 +23,7 @@ pub(crate) fn status<P: Port>(port: &mut P) -> u8
     back[0]
 }
 
-// One status read: if the chip is busy.
+// One status read, which is a poll: if the chip is busy.
 pub(crate) fn is_busy<P: Port>(port: &mut P) -> bool
     ensures busy { result ≡ not ((P.Port.chip port.old).busy == 0) }
     ensures chip { P.Port.chip port.new ≡ waited (P.Port.chip port.old) }
@@ -31,8 +32,8 @@ pub(crate) fn is_busy<P: Port>(port: &mut P) -> bool
     status(port) & WIP != 0
 }
 
-// Polls until the chip is idle, at most so many times. True if it is. With `any` in place of the `for` nothing is known of
-// the port as the closure leaves it, so the proof does not close.
+// Polls until one shows the chip idle, at most so many times. True if one did. With `any` in place of the `for` nothing is
+// known of the port as the closure leaves it, so the proof does not close.
 pub(crate) fn wait<P: Port>(port: &mut P, limit: usize) -> bool
     ensures idle { result ≡ nat_lt (P.Port.chip port.old).busy limit }
     ensures chip { P.Port.chip port.new ≡ lowered (min limit ((P.Port.chip port.old).busy + 1)) (P.Port.chip port.old) }

@@ -1,14 +1,15 @@
 -- Cycles that closed sectors bar, and those that they let pass.
-use Rattle.std.specs.Prelude.{◌≡◌, ℕ, ◌<◌, Bool, true, false, cond, not, ◌&&◌, ◌||◌, List, length, Some, None, Ok, Err, Result, nat_le, nat_lt, refl}
-use Rattle.std.proofs.Common.{sym, ap, ◌∙◌, arith, div-lt_iff_lt-mul}
+use Rattle.std.specs.Prelude.{◌≡◌, ℕ, ◌<◌, Bool, true, false, cond, not, ◌&&◌, ◌||◌, List, length, Some, None, Ok, Err, Result, unwrap_or, nat_le, nat_lt, refl}
+use Rattle.std.proofs.Common.{sym, ap, ap₂, ◌∙◌, arith, div-lt_iff_lt-mul}
 use Rattle.std.proofs.lemmas.Bool.{cond-true, cond-false, ltb-true, not-true, not-false, not_from_true}
 use Rattle.memory.specs.declared.kind.Kind.{Kind}
 use Rattle.memory.specs.declared.kind.Kind.TheVariants.{Program, Alter, Preset, SectorErase, BulkErase}
 use Rattle.memory.specs.Shape.{Shape, shaped, size, sector_at}
+use Rattle.memory.specs.Cycle.{permits}
 use Rattle.part.specs.declared.fault.PartFault.{PartFault}
 use Rattle.part.specs.declared.fault.PartFault.TheVariants.{Outside, NoSector, PageData, Busy, Protected, NotBlank}
 use Rattle.part.specs.Meaning.{Meaning, Sound, protected_at}
-use Rattle.part.specs.Verdict.{check, inside, fills, permits, presets, barred, idle, verdict_if, protection}
+use Rattle.part.specs.Verdict.{check, inside, fills, presets, barred, form_refusal, idle, verdict_if, protection}
 use Rattle.fence.specs.Closed.{fenced, is_closed, bars, barred_by}
 use Rattle.fence.specs.Marks.{length-either, either_at, either-closed, either_open, free_open, free-closed}
 
@@ -27,6 +28,23 @@ module _ (m : Shape) (idle : Bool) (kind : Kind) (address n : ℕ) where
   pub barred_last :
       inside m kind address ≡ true → fills m kind n ≡ true → idle ≡ true → barred_by m idle kind address n ≡ Protected (barred kind address)
   barred_last i f d = cond-true _ _ _ i ∙ (cond-true _ _ _ f ∙ cond-true _ _ _ d)
+
+  -- what is told is the first of the checks before protection that fails, and else the protection
+  pub barred-form : m.bytes ≡ 64 → barred_by m idle kind address n ≡ unwrap_or (form_refusal (size m) idle kind address n) (Protected (barred kind address))
+  barred-form e =
+      first (inside m kind address) (fills m kind n) idle (Outside address) (PageData n) Busy (Protected (barred kind address))
+      ∙ ap (λ f. unwrap_or (check (inside m kind address) (Outside address) (check f (PageData n) (check idle Busy None))) (Protected (barred kind address)))
+      (fills-page m kind n e)
+    where
+      first : (i f d : Bool) (x y z v : PartFault) → cond i (cond f (cond d v z) y) x ≡ unwrap_or (check i x (check f y (check d z None))) v
+      first true true true x y z v = refl
+      first true true false x y z v = refl
+      first true false d x y z v = refl
+      first false f d x y z v = refl
+
+not_not : (b : Bool) → not (not b) ≡ b
+not_not true = refl
+not_not false = refl
 
 -- the four checks, of which the last fails wherever the first passes
 stopped : (i f d p b : Bool) (x y z v w : PartFault) → (i ≡ true → p ≡ false)
@@ -79,6 +97,18 @@ module _ (m : Meaning) (S : Sound m) (closed : List Bool) where
       stopped (inside m.shape kind address) (fills m.shape kind (length sent)) (idle m)
       (permits m.shape (protected_at (fenced m closed)) kind address) (presets kind clean) (Outside address) (PageData (length sent)) Busy
       (Protected (barred kind address)) (NotBlank address) (barred-permits kind address b)
+
+  -- with the protection told where the checks before it are passed
+  pub formed-verdict :
+      (clean : Bool) (kind : Kind) (address : ℕ) (sent : List ℕ) → bars m.shape closed kind address ≡ true
+      → (bytes : ℕ) (busy : Bool) → bytes ≡ size m.shape → busy ≡ not (idle m) → None ≡ form_refusal bytes (not busy) kind address (length sent)
+      → verdict_if (fenced m closed) clean kind address sent ≡ Some (Protected (barred kind address))
+  formed-verdict clean kind address sent b bytes busy s i e =
+      barred-verdict clean kind address sent b
+      ∙ ap Some
+      (barred-form m.shape (idle m) kind address (length sent) S.page
+      ∙ ap (λ o. unwrap_or o (Protected (barred kind address)))
+      (sym (e ∙ ap₂ (λ x y. form_refusal x y kind address (length sent)) s (ap not i ∙ not_not (idle m)))))
 
   open_permits :
       (kind : Kind) (address : ℕ) → bars m.shape closed kind address ≡ false

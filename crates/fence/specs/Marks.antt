@@ -1,8 +1,9 @@
 -- Marks side by side.
 use Rattle.std.specs.Prelude.{◌≡◌, ℕ, zero, suc, ◌<◌, ◌≤◌, Bool, true, false, not, ◌&&◌, ◌||◌, ◌⊎◌, List, [], ◌∷◌, length, get_or, slice_index_or, refl}
 use Rattle.std.proofs.Common.{sym, ap, ap₂, ◌∙◌, inl, inr, ⊎_elim, arith}
-use Rattle.std.proofs.lemmas.Bool.{and_parts, cases_eq, not-true}
+use Rattle.std.proofs.lemmas.Bool.{cases_eq}
 use Rattle.memory.specs.Protection.{free}
+use Rattle.memory.proofs.Cycles.{free_at}
 use Rattle.fence.specs.Closed.{either, is_closed}
 
 or_false : (b : Bool) → (b || false) ≡ b
@@ -45,13 +46,6 @@ free_not p (suc n) k h e = ⊎_elim (λ t. ap (λ x. not x && free p n) (ap p (s
     off : (x y : Bool) → y ≡ false → (not x && y) ≡ false
     off true y e = refl
     off false y e = e
-
-pub free_at : (p : ℕ → Bool) (n k : ℕ) → free p n ≡ true → k < n → p k ≡ false
-free_at p zero k f h = absurd (omega arith)
-free_at p (suc n) k f h = ⊎_elim
-    (λ t. ap p t ∙ not-true _ (and_parts _ _ f).0)
-    (λ d. free_at p n k (and_parts _ _ f).1 (omega arith))
-    (cases_eq k n)
 
 free_by : (p q : ℕ → Bool) (n : ℕ) → ((k : ℕ) → k < n → p k ≡ q k) → free p n ≡ free q n
 free_by p q zero e = refl

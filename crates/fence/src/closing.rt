@@ -34,6 +34,7 @@ impl<P> Fence<P> {
 }
 
 impl<P: Part> Fence<P> {
+    // Marks a sector as closed or as open, if the part has one of this number.
     fn mark(&mut self, sector: usize, closed: bool) -> Result<(), PartFault>
         ensures result { result ≡ marked (P.Part.meaning self.old.part).shape sector }
         ensures part { self.new.part ≡ self.old.part }

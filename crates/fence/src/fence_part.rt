@@ -1,53 +1,34 @@
 // The fence is a part.
-ghost use Rattle.std.specs.Prelude.{◌≡◌, not};
+ghost use Rattle.std.specs.Prelude.{◌≡◌};
 ghost use Rattle.std.proofs.Common.{◌∙◌, rules};
 ghost use Rattle.memory.specs.Protection.{free};
-ghost use Rattle.part.specs.Verdict.{idle};
-ghost use Rattle.fence.specs.Closed.{barred_by, bars, fenced, is_closed};
+ghost use Rattle.fence.specs.Closed.{bars, fenced, is_closed};
 ghost use Rattle.fence.specs.Barring.{fenced-sound};
 
 use crate::fence::Fence;
+use memory::geometry::Geometry;
 use memory::kind::Kind;
 use part::fault::PartFault;
 use part::part::Part;
-use part::refusal::{barred, fills_page};
-use part::size::{geometry_of, is_within, size_of};
+use part::refusal::{barred, check_form};
+use part::size::size_of;
 
 impl<P: Part> Fence<P> {
-    // If no sector is closed.
-    fn is_open(&self) -> bool
+    // If no sector is closed. The planner's `is_free` asks the same of the protected sectors: another list, by another call.
+    fn closes_none(&self) -> bool
         ensures { result ≡ free (is_closed self.now.closed) (P.Part.meaning self.now.part).shape.sectors }
     {
         !(0..self.part.sectors()).any(|sector| self.is_closed(sector))
     }
 
-    // If a closed sector stands in the way of the cycle. An outline's `is_open` asks two other questions of the same two
-    // cases, and a function of both questions would be longer than either.
+    // If a closed sector stands in the way of the cycle: that of its address, and for a bulk erase any.
     fn bars(&self, kind: Kind, address: usize) -> bool
         ensures { result ≡ bars (P.Part.meaning self.now.part).shape self.now.closed kind address }
     {
-        match kind {
-            Kind::BulkErase => !self.is_open(),
-            Kind::Program | Kind::Alter | Kind::Preset | Kind::SectorErase => self.is_closed(
-                geometry_of(&self.part).sector_of(address),
-            ),
+        if !kind.has_address() {
+            return !self.closes_none();
         }
-    }
-
-    // How a cycle is refused that a closed sector bars: the checks before protection come first.
-    fn refusal(&self, kind: Kind, address: usize, n: usize) -> PartFault
-        ensures { result ≡ barred_by (P.Part.meaning self.now.part).shape (idle (P.Part.meaning self.now.part)) kind address n }
-    {
-        if !is_within(size_of(&self.part), kind, address) {
-            return PartFault::Outside(address);
-        }
-        if !fills_page(kind, n) {
-            return PartFault::PageData(n);
-        }
-        if self.part.is_busy() {
-            return PartFault::Busy;
-        }
-        PartFault::Protected(barred(kind, address))
+        self.is_closed(self.part.geometry().sector_of(address))
     }
 }
 
@@ -65,12 +46,8 @@ impl<P: Part> Part for Fence<P> {
 
     ghost joins = { λ a b c l m p q. (q.0 ∙ p.0, P.Part.joins _ _ _ _ _ p.1 q.1) };
 
-    fn sectors(&self) -> usize {
-        self.part.sectors()
-    }
-
-    fn pages(&self) -> usize {
-        self.part.pages()
+    fn geometry(&self) -> Geometry {
+        self.part.geometry()
     }
 
     fn is_busy(&self) -> bool {
@@ -88,7 +65,14 @@ impl<P: Part> Part for Fence<P> {
 
     fn cycle(&mut self, kind: Kind, address: usize, data: &[u8]) -> Result<(), PartFault> {
         if self.bars(kind, address) {
-            return Err(self.refusal(kind, address, data.len()));
+            check_form(
+                size_of(&self.part),
+                self.part.is_busy(),
+                kind,
+                address,
+                data.len(),
+            )?;
+            return Err(PartFault::Protected(barred(kind, address)));
         }
         self.part.cycle(kind, address, data)
     }

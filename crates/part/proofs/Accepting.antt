@@ -4,11 +4,11 @@ use Rattle.std.proofs.lemmas.Bool.{eq-eqb}
 use Rattle.memory.specs.declared.kind.Kind.{Kind}
 use Rattle.memory.specs.declared.kind.Kind.TheVariants.{Program, Alter, Preset, SectorErase, BulkErase}
 use Rattle.memory.specs.Shape.{Shape}
-use Rattle.memory.specs.Cycle.{cycle_of, accepts}
+use Rattle.memory.specs.Cycle.{cycle_of, permits, accepts}
 use Rattle.part.specs.declared.fault.PartFault.{PartFault}
 use Rattle.part.specs.declared.fault.PartFault.TheVariants.{Outside, PageData, Busy, Protected, NotBlank}
 use Rattle.part.specs.Meaning.{protected_at}
-use Rattle.part.specs.Verdict.{Accepting, check, refusal, inside, fills, permits, barred, presets, idle, clean_at}
+use Rattle.part.specs.Verdict.{Accepting, check, refusal, inside, fills, barred, presets, idle, clean_at}
 
 -- five checks, the third of them passed
 checked : (d i f p b : Bool) (x y z v w : PartFault) → d ≡ true

@@ -4,14 +4,14 @@ use Rattle.std.proofs.lemmas.Bool.{eqb-true, leb-true, cond-true, cond-false}
 use Rattle.memory.specs.declared.kind.Kind.{Kind}
 use Rattle.memory.specs.declared.kind.Kind.TheVariants.{Program, Alter, Preset, SectorErase, BulkErase}
 use Rattle.memory.specs.Shape.{Shape, size}
-use Rattle.memory.specs.Cycle.{cycle_of, accepts, effect}
+use Rattle.memory.specs.Cycle.{cycle_of, permits, accepts, effect}
 use Rattle.memory.specs.Image.{carried, reaches}
 use Rattle.part.specs.declared.fault.PartFault.{PartFault}
 use Rattle.part.specs.declared.fault.PartFault.TheVariants.{Outside, PageData, Busy, Protected, NotBlank}
 use Rattle.part.specs.declared.outline.Outline.{Outline}
 use Rattle.part.specs.Meaning.{Meaning, protected_at}
 use Rattle.part.specs.Outline.{Outlines, outlined, guarding}
-use Rattle.part.specs.Verdict.{check, refusal, read_refusal, inside, fills, permits, barred, presets, idle, clean_at, verdict, read_verdict, told}
+use Rattle.part.specs.Verdict.{check, refusal, read_refusal, inside, fills, barred, presets, idle, clean_at, verdict, read_verdict, told}
 use Rattle.part.proofs.Accepting.{accepting, presets_clean}
 
 -- what is told, and why

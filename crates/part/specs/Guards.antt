@@ -1,11 +1,15 @@
 -- The protected sectors as a list, and when there is none.
 use Rattle.std.specs.Prelude.{◌≡◌, ℕ, zero, suc, ◌-◌, ◌<◌, ◌≤◌, Bool, false, not, ◌&&◌, map, length, get_or, ◌==◌, bit_and, nat_le, slice_index_or, refl}
-use Rattle.std.proofs.Common.{sym, ap₂, ◌∙◌, ⊎_elim, arith}
+use Rattle.std.proofs.Common.{sym, ap, ap₂, ◌∙◌, ⊎_elim, arith}
 use Rattle.std.specs.List.{range_with_len}
 use Rattle.std.proofs.lemmas.List.FromFn.{get_or-map-range_with_len, length-map-range_with_len}
 use Rattle.std.proofs.lemmas.List.{get_or_past}
 use Rattle.std.proofs.lemmas.Bool.{cases_lt, cond_both, and_right, le-ltb}
 use Rattle.std.proofs.lemmas.Bool.Decides.{nat_tests}
+use Rattle.memory.specs.declared.kind.Kind.{Kind}
+use Rattle.memory.specs.declared.kind.Kind.TheVariants.{Program, Alter, Preset, SectorErase, BulkErase}
+use Rattle.memory.specs.Shape.{Shape}
+use Rattle.memory.specs.Cycle.{permits}
 use Rattle.memory.specs.Protection.{protected_count, protects, free}
 use Rattle.memory.proofs.Free.{free-protects}
 use Rattle.part.specs.Outline.{guards}
@@ -35,6 +39,14 @@ length-guards st s = length-map-range_with_len (protects st s) 0 s
 pub free_same : (p q : ℕ → Bool) (n : ℕ) → ((k : ℕ) → p k ≡ q k) → free p n ≡ free q n
 free_same p q zero e = refl
 free_same p q (suc n) e = ap₂ (λ x y. not x && y) (e n) (free_same p q n e)
+
+-- the list permits what the status byte does
+pub permits-guards : (m : Shape) (st s : ℕ) (kind : Kind) (address : ℕ) → permits m (λ k. get_or (guards st s) k false) kind address ≡ permits m (protects st s) kind address
+permits-guards m st s Program address = ap not (guard_at st s _)
+permits-guards m st s Alter address = ap not (guard_at st s _)
+permits-guards m st s Preset address = ap not (guard_at st s _)
+permits-guards m st s SectorErase address = ap not (guard_at st s _)
+permits-guards m st s BulkErase address = free_same _ _ m.sectors (guard_at st s)
 
 pub free-guards : (st s : ℕ) → st < 256 → 0 < s → free (λ k. get_or (guards st s) k false) s ≡ (bit_and st 0x5C == 0)
 free-guards st s h k = free_same _ _ s (guard_at st s) ∙ free-protects st s h k

@@ -2,10 +2,9 @@
 use Rattle.std.specs.Prelude.{◌≡◌, ℕ, ◌+◌, ◌/◌, Bool, true, cond, not, ◌&&◌, List, length, is_some, Some, None, Ok, Err, Option, Result, ◌==◌, nat_le, nat_lt}
 use Rattle.memory.specs.declared.kind.Kind.{Kind}
 use Rattle.memory.specs.declared.kind.Kind.TheVariants.{Program, Alter, Preset, SectorErase, BulkErase}
-use Rattle.memory.specs.Shape.{Shape, size, sector_at}
-use Rattle.memory.specs.Protection.{free}
+use Rattle.memory.specs.Shape.{Shape, shaped, size}
 use Rattle.memory.specs.Page.{page, blank}
-use Rattle.memory.specs.Cycle.{cycle_of, accepts}
+use Rattle.memory.specs.Cycle.{cycle_of, permits, accepts}
 use Rattle.part.specs.declared.fault.PartFault.{PartFault}
 use Rattle.part.specs.declared.fault.PartFault.TheVariants.{Outside, NoSector, PageData, Busy, Protected, NotBlank}
 use Rattle.part.specs.Meaning.{Meaning, protected_at}
@@ -34,15 +33,7 @@ fills m Preset n = nat_lt 0 n && nat_le n m.bytes
 fills m SectorErase n = true
 fills m BulkErase n = true
 
--- 4: the sector of the address is not protected, or for a bulk erase none is
-abbrev pub permits : Shape → (ℕ → Bool) → Kind → ℕ → Bool
-permits m prot Program address = not (prot (sector_at m address))
-permits m prot Alter address = not (prot (sector_at m address))
-permits m prot Preset address = not (prot (sector_at m address))
-permits m prot SectorErase address = not (prot (sector_at m address))
-permits m prot BulkErase address = free prot m.sectors
-
--- the address that 4 tells
+-- 4: nothing that the cycle alters is protected (`permits`), and the address that is told where something is
 abbrev pub barred : Kind → ℕ → ℕ
 barred Program address = address
 barred Alter address = address
@@ -57,6 +48,11 @@ presets Alter clean = true
 presets Preset clean = clean
 presets SectorErase clean = true
 presets BulkErase clean = true
+
+-- 1 to 3 alone, of a memory of so many bytes, each page of which has 64
+abbrev pub form_refusal : ℕ → Bool → Kind → ℕ → ℕ → Option PartFault
+form_refusal size idle kind address n =
+    check (within size kind address) (Outside address) (check (fills (shaped 0 0) kind n) (PageData n) (check idle Busy None))
 
 -- why a cycle with n bytes of data is refused, if it is
 abbrev pub refusal : Shape → (ℕ → Bool) → Bool → Bool → Kind → ℕ → ℕ → Option PartFault

@@ -61,6 +61,7 @@ impl PlainImage {
         image.into_bytes()
     }
 
+    // Put together where it is asked for: the geometry is the image's own.
     pub(crate) fn outline(&self) -> Outline
         ensures { Outlines result (plainly self.now) }
     {
@@ -71,13 +72,10 @@ impl PlainImage {
         }
     }
 
-    // If the page is as a cycle of this kind needs it.
+    // If the page is as a cycle of this kind needs it. The driver has a function of this name, which asks its chip by frames.
     pub(crate) fn is_clean_for(&self, kind: Kind, address: usize) -> bool
         ensures { result ≡ presets kind (clean_at (plainly self.now) address) }
     {
-        match kind {
-            Kind::Preset => self.image.is_page_blank(address),
-            Kind::Program | Kind::Alter | Kind::SectorErase | Kind::BulkErase => true,
-        }
+        kind != Kind::Preset || self.image.is_page_blank(address)
     }
 }

@@ -1,15 +1,17 @@
 // The part: a memory that can be planned for.
 ghost use Rattle.std.specs.Prelude.{◌≡◌, ◌≤◌, true, false, not, List, [], ◌∷◌, ◌++◌, length, is_ok, if◌then◌else◌};
+ghost use Rattle.memory.specs.Shape.{shaped};
 ghost use Rattle.memory.specs.Page.{block};
 ghost use Rattle.memory.specs.Cycle.{cycle_of, effect};
 ghost use Rattle.part.specs.Meaning.{Event, Meaning, Sound, asked, carried, polled, waited};
 ghost use Rattle.part.specs.Verdict.{idle, protection, read_verdict, told, verdict, verdict_if};
 
 use crate::fault::PartFault;
+use memory::geometry::Geometry;
 use memory::kind::Kind;
 
-// What every part means: counts, an image, the protected sectors, how many polls are due, and which events led
-// from one state of the part to another. A trace can only be shown by making the calls, in their order.
+// What every part means: how it is divided, an image, the protected sectors, how many polls are due, and which events
+// led from one state of the part to another. A trace can only be shown by making the calls, in their order.
 //
 // A part may remember what it once learnt of a device. `intact` says that what it remembers is true of the
 // device: it holds of a part just made, and every call keeps it. What depends on it is promised under it.
@@ -20,12 +22,22 @@ pub trait Part {
 
     ghost intact: { Self → Type 0 };
 
-    fn sectors(&self) -> usize
-        ensures { result ≡ (meaning self.now).shape.sectors };
+    // How it is divided.
+    fn geometry(&self) -> Geometry
+        ensures { shaped result.sectors result.pages ≡ (meaning self.now).shape };
 
-    // In a sector.
+    fn sectors(&self) -> usize
+        ensures { result ≡ (meaning self.now).shape.sectors }
+    {
+        self.geometry().sectors
+    }
+
+    // Of one sector.
     fn pages(&self) -> usize
-        ensures { result ≡ (meaning self.now).shape.pages };
+        ensures { result ≡ (meaning self.now).shape.pages }
+    {
+        self.geometry().pages
+    }
 
     // If polls are due.
     fn is_busy(&self) -> bool
@@ -47,6 +59,8 @@ pub trait Part {
     // erase ignores its data, a bulk erase its address too.
     //
     // Whether a preset's page is wholly FFh is for the device to say, so `result` leaves that one answer open.
+    //
+    // One call takes all five kinds, each by kind, address and data side by side: a rule of the project.
     fn cycle(&mut self, kind: Kind, address: usize, data: &[u8]) -> Result<(), PartFault>
         ensures result { result ≡ told (verdict_if (meaning self.old) (is_ok result) kind address «data».now) }
         ensures verdict { intact self.old → result ≡ told (verdict (meaning self.old) kind address «data».now) }
@@ -58,16 +72,19 @@ pub trait Part {
         ensures trace { trace self.old self.new (if is_ok result then carried (cycle_of kind address «data».now) ∷ [] else []) }
         ensures intact { intact self.old → intact self.new };
 
-    // One poll, after which one less is due. True if none is due then.
+    // One poll, which asks if the last cycle is over: one less is due then. True if none is.
     fn poll(&mut self) -> bool
         ensures idle { result ≡ idle (meaning self.new) }
         ensures waited { meaning self.new ≡ waited (meaning self.old) }
         ensures trace { trace self.old self.new (polled ∷ []) }
         ensures intact { intact self.old → intact self.new };
 
+    // What it means can be.
     ghost sound: { (s : Self) → Sound (meaning s) };
 
+    // No event leaves it as it is.
     ghost stays: { (s : Self) → trace s s [] };
 
+    // Events after events.
     ghost joins: { (a b c : Self) (l m : List Event) → trace a b l → trace b c m → trace a c (l ++ m) };
 }

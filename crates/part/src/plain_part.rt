@@ -1,16 +1,14 @@
 // The plain image is a part.
-ghost use Rattle.std.specs.Prelude.{◌≡◌, length};
-ghost use mathlib.Core.Path.{◌∙◌, sym};
+ghost use Rattle.std.specs.Prelude.{refl};
+ghost use Rattle.std.proofs.Common.{◌∙◌, sym};
 ghost use Rattle.part.specs.Plain.{Played, plainly, none};
-ghost use Rattle.memory.specs.Shape.{size};
-ghost use Rattle.memory.specs.Image.{shape_of};
 ghost use Rattle.part.specs.Guards.{length-guards};
-ghost use mathlib.Core.Path;
 ghost use Rattle.part.specs.Playing.{played-++};
 
 use crate::fault::PartFault;
 use crate::part::Part;
 use crate::plain::PlainImage;
+use memory::geometry::Geometry;
 use memory::kind::Kind;
 
 impl Part for PlainImage {
@@ -23,27 +21,22 @@ impl Part for PlainImage {
 
     ghost sound = { λ s.
         let i = s.image in
-        let w : length i.bytes.items ≡ size (shape_of i) = sym i.bytes.ok.0 ∙ i.sized in
         record {
           some = i.geometry.some;
           few = i.geometry.few;
           paged = i.geometry.paged;
           low = i.geometry.low;
-          page = mathlib.Core.Path.refl;
+          page = refl;
           each = length-guards s.status.bits i.geometry.sectors;
-          imaged = record { whole = w; bytes = i.byte };
+          imaged = record { whole = sym i.bytes.ok.0 ∙ i.sized; bytes = i.byte };
         } };
 
     ghost stays = { λ s. none };
 
     ghost joins = { λ a b c l m p q. played-++ p q };
 
-    fn sectors(&self) -> usize {
-        self.image.geometry.sectors
-    }
-
-    fn pages(&self) -> usize {
-        self.image.geometry.pages
+    fn geometry(&self) -> Geometry {
+        self.image.geometry
     }
 
     fn is_busy(&self) -> bool {

@@ -2,7 +2,8 @@
 ghost use Rattle.std.specs.Prelude.{◌≡◌, true, not, if◌then◌else◌, Ok, Err, nat_lt};
 ghost use Rattle.memory.specs.Shape.{shaped};
 ghost use Rattle.part.specs.declared.fault.PartFault.TheVariants.{NoSector};
-ghost use Rattle.part.specs.Verdict.{Accepting, barred, fills, permits, read_refusal, refusal, told};
+ghost use Rattle.memory.specs.Cycle.{permits};
+ghost use Rattle.part.specs.Verdict.{Accepting, barred, fills, form_refusal, read_refusal, refusal, told};
 ghost use Rattle.part.specs.Outline.{guarding, outlined};
 
 use crate::fault::PartFault;
@@ -12,6 +13,7 @@ use memory::kind::Kind;
 use memory::model::PAGE_BYTES;
 
 impl Outline {
+    // As the list of a part's protected sectors has it, which is what its meaning holds.
     fn protects(&self, sector: usize) -> bool
         ensures { result ≡ guarding self.now sector }
     {
@@ -19,15 +21,10 @@ impl Outline {
     }
 
     // Whether nothing that the cycle alters is protected.
-    fn is_open(&self, kind: Kind, address: usize) -> bool
+    fn permits(&self, kind: Kind, address: usize) -> bool
         ensures { result ≡ permits (outlined self.now) (guarding self.now) kind address }
     {
-        match kind {
-            Kind::BulkErase => self.status.protects_none(),
-            Kind::Program | Kind::Alter | Kind::Preset | Kind::SectorErase => !self.protects(
-                self.geometry.sector_of(address),
-            ),
-        }
+        self.status.permits(self.geometry, kind, address)
     }
 
     // Whether a sector is protected.
@@ -58,38 +55,47 @@ impl Outline {
         ensures value { result ≡ told (refusal (outlined self.now) (guarding self.now) (not self.now.busy) true kind address n) }
         ensures accepting { Accepting }
     {
-        if !is_within(self.geometry.size(), kind, address) {
-            return Err(PartFault::Outside(address));
-        }
-        if !fills_page(kind, n) {
-            return Err(PartFault::PageData(n));
-        }
-        if self.busy {
-            return Err(PartFault::Busy);
-        }
-        if !self.is_open(kind, address) {
+        check_form(self.geometry.size(), self.busy, kind, address, n)?;
+        if !self.permits(kind, address) {
             return Err(PartFault::Protected(barred(kind, address)));
         }
         Ok(())
     }
 }
 
+// How a cycle is refused, if it is, before protection is looked at: its address has to be among so many bytes, its n bytes of
+// data have to suit it, and no polls may be due.
+pub fn check_form(
+    size: usize,
+    busy: bool,
+    kind: Kind,
+    address: usize,
+    n: usize,
+) -> Result<(), PartFault>
+    ensures { result ≡ told (form_refusal size (not busy) kind address n) }
+{
+    if !is_within(size, kind, address) {
+        return Err(PartFault::Outside(address));
+    }
+    if !fills_page(kind, n) {
+        return Err(PartFault::PageData(n));
+    }
+    if busy {
+        return Err(PartFault::Busy);
+    }
+    Ok(())
+}
+
 // Whether n bytes of data suit a cycle of this kind: one at least and a page at most; an erase has none.
 pub fn fills_page(kind: Kind, n: usize) -> bool
     ensures { result ≡ fills (shaped 0 0) kind n }
 {
-    match kind {
-        Kind::Program | Kind::Alter | Kind::Preset => n > 0 && n <= PAGE_BYTES,
-        Kind::SectorErase | Kind::BulkErase => true,
-    }
+    !kind.has_data() || (n > 0 && n <= PAGE_BYTES)
 }
 
-// The address that is told where a cycle meets protection: a bulk erase has none.
+// The address that is told where a cycle meets protection: a bulk erase has none, and tells 0.
 pub fn barred(kind: Kind, address: usize) -> usize
     ensures { result ≡ barred kind address }
 {
-    match kind {
-        Kind::BulkErase => 0,
-        Kind::Program | Kind::Alter | Kind::Preset | Kind::SectorErase => address,
-    }
+    if kind.has_address() { address } else { 0 }
 }

@@ -9,6 +9,7 @@ ghost use Rattle.std.proofs.Common.{rules};
 
 use least::cost::Cost;
 use least::step::Step;
+use memory::geometry::Geometry;
 use memory::kind::Kind;
 use part::fault::PartFault;
 use part::part::Part;
@@ -37,12 +38,8 @@ impl<P: Part> Part for Counting<P> {
       joined a.asked b.asked c.asked (asked_bytes l) (asked_bytes m) _ p.1 q.1 (asked_join l m),
     ) };
 
-    fn sectors(&self) -> usize {
-        self.inner.sectors()
-    }
-
-    fn pages(&self) -> usize {
-        self.inner.pages()
+    fn geometry(&self) -> Geometry {
+        self.inner.geometry()
     }
 
     fn is_busy(&self) -> bool {

@@ -3,14 +3,14 @@ use Rattle.std.proofs.lemmas.Bool.{not-true}
 use Rattle.std.proofs.lemmas.Result.{err_from_is_err_and}
 use Rattle.memory.specs.declared.kind.Kind.{Kind}
 use Rattle.memory.specs.Page.{page, blank}
-use Rattle.memory.specs.Cycle.{cycle_of, effect}
+use Rattle.memory.specs.Cycle.{cycle_of, effect, permits}
 use Rattle.port.specs.Chip as of_chip
 use Rattle.port.specs.Chip.{Chip}
 use Rattle.port.specs.Machine.{after}
 use Rattle.part.specs.declared.outline.Outline.{Outline}
 use Rattle.part.specs.Meaning.{carried}
 use Rattle.part.specs.Outline.{outlined, guarding}
-use Rattle.part.specs.Verdict.{refusal, inside, fills, permits, presets}
+use Rattle.part.specs.Verdict.{refusal, inside, fills, presets}
 use Rattle.part.proofs.Refusals.{Passes, all_passed, unrefused}
 use Rattle.driver.specs.Frames.{looks, enable_frame, cycle_frame}
 use Rattle.driver.specs.Driving.{Drives, Intact, seen}

@@ -1,45 +1,38 @@
-use Rattle.std.proofs.Common.{false, is_ok, Err, sym, refl, ap, ◌∙◌}
-use Rattle.std.proofs.lemmas.Bool.{false≢true}
+use Rattle.std.proofs.Common.{is_ok, false, Err, sym, ap, ◌∙◌}
+use Rattle.part.specs.declared.fault.PartFault.TheVariants.{Protected}
 use Rattle.part.specs.Meaning.{Meaning}
 use Rattle.part.specs.Verdict.{told, clean_at}
-use Rattle.fence.specs.Closed.{either, fenced}
-use Rattle.fence.specs.Barring.{barred-verdict, open_verdict}
+use Rattle.part.proofs.Refusals.{unrefused}
+use Rattle.fence.specs.Barring.{formed-verdict, open_verdict}
 use Rattle.fence.proofs.fence_part.FencePart.cycle.Goals as goal
 
-pub returns-then-bars : goal.returns-then-bars
-returns-then-bars g c =
+pub returns-then-bars-clause-result : goal.returns-then-bars-clause-result
+returns-then-bars-clause-result g c =
     let f = c.args.self.now in
     let m : Meaning = g.P.Part.meaning f.part in
-    let S = g.met.P.Part.sound f.part in
-    let b = sym c.if-bars.ensures in
-    let e = ap Err c.refusal.ensures in
-    record {
-      result = e ∙ ap told (sym (barred-verdict m S f.closed false c.args.kind c.args.address c.args.data.now b));
-      verdict = λ _. e ∙ ap told (sym (barred-verdict m S f.closed (clean_at m c.args.address) c.args.kind c.args.address c.args.data.now b));
-      shape = refl;
-      guarded = refl;
-      undone = λ _. refl;
-      image = λ _ t. absurd (false≢true t);
-      due = λ t. absurd (false≢true t);
-      trace = (refl, g.met.P.Part.stays f.part);
-      intact = λ i. i;
-    }
+    let o = unrefused _ c.in_ok-check_form.ensures in
+    ap (λ a. Err (Protected a)) c.barred.ensures
+    ∙ ap told
+    (sym (formed-verdict m (g.met.P.Part.sound f.part) f.closed false c.args.kind c.args.address c.args.data.now (sym c.if-bars.ensures) _ _ c.size_of.ensures c.is_busy.ensures o))
 
-pub returns : goal.returns
-returns g c =
+pub returns-then-bars-clause-verdict : goal.returns-then-bars-clause-verdict
+returns-then-bars-clause-verdict g c = λ _.
     let f = c.args.self.now in
     let m : Meaning = g.P.Part.meaning f.part in
-    let S = g.met.P.Part.sound f.part in
-    let b = sym c.if-bars.ensures in
-    let e = c.cycle.ensures in
-    record {
-      result = e.result ∙ ap told (open_verdict m S f.closed (is_ok c.cycle.result) c.args.kind c.args.address c.args.data.now b);
-      verdict = λ i. e.verdict i ∙ ap told (open_verdict m S f.closed (clean_at m c.args.address) c.args.kind c.args.address c.args.data.now b);
-      shape = e.shape;
-      guarded = ap (λ gs. either gs f.closed) e.guarded;
-      undone = λ t. ap (λ (x : Meaning). fenced x f.closed) (e.undone t);
-      image = e.image;
-      due = e.due;
-      trace = (refl, e.trace);
-      intact = e.intact;
-    }
+    let o = unrefused _ c.in_ok-check_form.ensures in
+    ap (λ a. Err (Protected a)) c.barred.ensures
+    ∙ ap told
+    (sym (formed-verdict m (g.met.P.Part.sound f.part) f.closed (clean_at m c.args.address) c.args.kind c.args.address c.args.data.now (sym c.if-bars.ensures) _ _ c.size_of.ensures c.is_busy.ensures o))
+
+pub returns-clause-result : goal.returns-clause-result
+returns-clause-result g c =
+    let f = c.args.self.now in
+    c.cycle.ensures.result
+    ∙ ap told (open_verdict (g.P.Part.meaning f.part) (g.met.P.Part.sound f.part) f.closed (is_ok c.cycle.result) c.args.kind c.args.address c.args.data.now (sym c.if-bars.ensures))
+
+pub returns-clause-verdict : goal.returns-clause-verdict
+returns-clause-verdict g c = λ i.
+    let f = c.args.self.now in
+    let m : Meaning = g.P.Part.meaning f.part in
+    c.cycle.ensures.verdict i
+    ∙ ap told (open_verdict m (g.met.P.Part.sound f.part) f.closed (clean_at m c.args.address) c.args.kind c.args.address c.args.data.now (sym c.if-bars.ensures))

@@ -4,7 +4,7 @@ use Rattle.std.proofs.lemmas.Iterator.{YieldsList-from_range}
 use Rattle.std.proofs.lemmas.Iterator.Search.{any_from_yields_List}
 use Rattle.memory.specs.Protection.{free}
 use Rattle.fence.specs.Closed.{is_closed}
-use Rattle.fence.proofs.fence.Fence.is_open.Goals as goal
+use Rattle.fence.proofs.fence.Fence.closes_none.Goals as goal
 
 -- none of the next is closed either
 next : (x y z : Bool) → (not (x || y) && z) ≡ (not y && (not x && z))
