@@ -79,12 +79,12 @@ pub trait Part {
         ensures trace { trace self.old self.new (polled ∷ []) }
         ensures intact { intact self.old → intact self.new };
 
-    // What it means can be.
+    // What it means is a memory that there can be: its counts in range, its image as long as they say.
     ghost sound: { (s : Self) → Sound (meaning s) };
 
-    // No event leaves it as it is.
+    // No event leads from a state to itself.
     ghost stays: { (s : Self) → trace s s [] };
 
-    // Events after events.
+    // Events, and then others, lead from the first state to the last.
     ghost joins: { (a b c : Self) (l m : List Event) → trace a b l → trace b c m → trace a c (l ++ m) };
 }
