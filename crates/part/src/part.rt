@@ -82,7 +82,7 @@ pub trait Part {
     // What it means is a memory that there can be: its counts in range, its image as long as they say.
     ghost sound: { (s : Self) → Sound (meaning s) };
 
-    // No event leads from a state to itself.
+    // The empty list of events leads from a state to itself.
     ghost stays: { (s : Self) → trace s s [] };
 
     // Events, and then others, lead from the first state to the last.
