@@ -3,10 +3,7 @@ use Rattle.std.proofs.lemmas.List.{take_at}
 use Rattle.std.proofs.lemmas.Bool.{cond-true, le-leb}
 use Rattle.port.specs.declared.fault.PortFault.{PortFault}
 use Rattle.port.specs.Build.{built}
-use Rattle.listing.specs.Parts.{exchange}
-use Rattle.listing.specs.Writing.{line_text}
 use Rattle.listing.proofs.Planned.{some_bytes}
-use Rattle.listing.proofs.Sheets.{wrote_is}
 use Rattle.listing.proofs.plan_text.put_frame.Goals as goal
 
 same_ok : (m n : ℕ) → ◌≡◌ {A = Result ℕ PortFault} (Ok m) (Ok n) → m ≡ n
