@@ -1,5 +1,6 @@
 -- Pairs as they are spelled and as they are read.
 use Rattle.std.proofs.Common.{◌≡◌, ℕ, ◌+◌, ◌*◌, ◌<◌, ◌≤◌, List, [], ◌∷◌, ◌++◌, length, get_or, drop, Some, None, Option, sym, refl, ap, ◌∙◌, subst, arith}
+use Rattle.std.proofs.Math.Nat.{suc-ne-zero}
 use Rattle.std.proofs.lemmas.Bool.Decides.{nat_tests}
 use Rattle.listing.specs.Hex.{glyph, Pair, pair}
 use Rattle.listing.specs.Scan.{digit_of, joined, pair_of}
@@ -33,8 +34,8 @@ pub pair_first : {w : List ℕ} {v : ℕ} → Pair w v → (s : List ℕ) → (4
 pair_first (pair h l p q) s = grind (arith, nat_tests)
 
 join_spelled : (a b v : ℕ) (x y : Option ℕ) → digit_of a ≡ x → digit_of b ≡ y → joined x y ≡ Some v → Pair (a ∷ b ∷ []) v
-join_spelled a b v None y d e j = absurd (let z : ◌≡◌ {A = ℕ} 0 1 = cc in omega arith)
-join_spelled a b v (Some h) None d e j = absurd (let z : ◌≡◌ {A = ℕ} 0 1 = cc in omega arith)
+join_spelled a b v None y d e j = absurd (suc-ne-zero 0 cc)
+join_spelled a b v (Some h) None d e j = absurd (suc-ne-zero 0 cc)
 join_spelled a b v (Some h) (Some l) d e j =
     let p = digit-spelled a h d in
     let q = digit-spelled b l e in
@@ -45,12 +46,12 @@ join_spelled a b v (Some h) (Some l) d e j =
     subst P (sym p.1) (subst Q (sym q.1) (subst R r (pair h l p.0 q.0)))
 
 lone : (x : Option ℕ) (v : ℕ) → joined x None ≡ Some v → ⊥
-lone None v j = let z : ◌≡◌ {A = ℕ} 0 1 = cc in omega arith
-lone (Some h) v j = let z : ◌≡◌ {A = ℕ} 0 1 = cc in omega arith
+lone None v j = suc-ne-zero 0 cc
+lone (Some h) v j = suc-ne-zero 0 cc
 
 pub pair-spelled : (s : List ℕ) (v : ℕ) → pair_of s ≡ Some v → Leads s v
 unfolding pair_of
-pair-spelled [] v e = absurd (let z : ◌≡◌ {A = ℕ} 0 1 = cc in omega arith)
+pair-spelled [] v e = absurd (suc-ne-zero 0 cc)
 pair-spelled (a ∷ []) v e = absurd (lone (digit_of a) v e)
 pair-spelled (a ∷ b ∷ s) v e =
     record { word = a ∷ b ∷ []; left = s; spelled = join_spelled a b v (digit_of a) (digit_of b) refl refl e; text = refl }

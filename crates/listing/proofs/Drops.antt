@@ -1,5 +1,6 @@
 -- What is left of a text, read at its start.
 use Rattle.std.proofs.Common.{◌≡◌, ℕ, ◌+◌, ◌-◌, ◌<◌, ◌≤◌, List, length, get_or, take, drop, None, Some, Option, Ok, Err, sym, refl, ap, ◌∙◌, add-zero, arith}
+use Rattle.std.proofs.Math.Nat.{suc-ne-zero}
 use Rattle.std.specs.Option.{ok_or}
 use Rattle.std.proofs.lemmas.List.{get_or-drop, length-drop, take_rest}
 use Rattle.listing.specs.declared.fault.ListingFault.{ListingFault}
@@ -11,10 +12,10 @@ first_left t i = get_or-drop i t 0 0 ∙ ap (λ n. get_or t n 0) (add-zero i)
 -- what `ok_or` and `?` leave known
 pub lacked : {X E : Type 0} (o : Option X) (g f : E) → Err f ≡ ok_or o g → (o ≡ None) × (f ≡ g)
 lacked None g f e = (refl, let h : f ≡ g = cc in h)
-lacked (Some x) g f e = absurd (let z : ◌≡◌ {A = ℕ} 0 1 = cc in omega arith)
+lacked (Some x) g f e = absurd (suc-ne-zero 0 cc)
 
 pub had : {X E : Type 0} (o : Option X) (g : E) (x : X) → Ok x ≡ ok_or o g → o ≡ Some x
-had None g x e = absurd (let z : ◌≡◌ {A = ℕ} 0 1 = cc in omega arith)
+had None g x e = absurd (suc-ne-zero 0 cc)
 had (Some y) g x e = let h : y ≡ x = cc in ap (λ z. Some z) h
 
 -- no pair, or one, at a place of a text

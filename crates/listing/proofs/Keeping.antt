@@ -1,5 +1,6 @@
 -- What is kept of a line is the line of what it asks for.
 use Rattle.std.proofs.Common.{◌≡◌, ℕ, ◌+◌, ◌*◌, ◌/◌, ◌%◌, ◌<◌, ◌≤◌, ◌⊎◌, List, [], ◌∷◌, ◌++◌, length, get_or, Some, None, Option, sym, refl, ap, ◌∙◌, subst, inl, inr, append_assoc, arith, length-append}
+use Rattle.std.proofs.Math.Nat.{suc-ne-zero}
 use Rattle.std.proofs.lemmas.List.{append-nil}
 use Rattle.std.specs.List.{AllByRecursion as All}
 use Rattle.std.proofs.ByRecursion.{All-from_get_or}
@@ -79,7 +80,7 @@ noteless_parts [] js h = (tt, h)
 noteless_parts (i ∷ is) js h = let r = noteless_parts is js h.1 in ((h.0, r.0), r.1)
 
 no_end : (l c : ℕ) → failed l c ≡ ended → ⊥
-no_end l c e = let z : ◌≡◌ {A = ℕ} 0 1 = cc in omega arith
+no_end l c e = suc-ne-zero 0 cc
 
 -- a listing without notes is its own text
 pub same_text : {l : ℕ} {t : List ℕ} {is : List Spot} {xs : List Exchange} {e : Ending} → Reads l t is xs e → e ≡ ended → Noteless is → listing xs ≡ t

@@ -1,5 +1,6 @@
 -- A line as the reader finds it and as the grammar has it.
 use Rattle.std.proofs.Common.{◌≡◌, ℕ, ◌+◌, ◌-◌, ◌<◌, Bool, true, false, cond, eqb, List, [], ◌∷◌, ◌++◌, length, get_or, take, drop, Ok, Err, Result, sym, refl, ap, ◌∙◌, subst, append_assoc, arith, length-append}
+use Rattle.std.proofs.Math.Nat.{suc-ne-zero}
 use Rattle.std.proofs.lemmas.Bool.{eqb-true, eqb-false}
 use Rattle.std.proofs.lemmas.List.{take_at, drop_at, take_rest}
 use Rattle.listing.specs.declared.extent.Extent.{Extent}
@@ -126,18 +127,27 @@ line-sound l s h = go (eqb (get_or s 0 0) 59) refl
     go true e = inner (drop 1 s) (begins s 59 (omega arith) (eqb-true _ _ e))
     go false e = of_pairs l s h (pairs-sound (length s) 0 s start (omega arith) (sound.at_start (eqb-false _ _ e)))
 
--- it ends before the text does
+-- what the reader's answer says of a text that is not empty
+found : (l : ℕ) (s : List ℕ) (x : Extent) (o : Result Extent ℕ) → Ok x ≡ refused l o → LineIs l s o → Found l s x
+found l s x (Ok y) e h = let P : Extent → Type 0 = λ z. Found l s z in subst P (let q : y ≡ x = cc in q) h
+found l s x (Err a) e h = absurd (suc-ne-zero 0 cc)
+
+line_sound : (l : ℕ) (s : List ℕ) → 0 < length s → LineIs l s (scan s)
+line_sound l s some = line-sound l s (λ e. let n = ap length e in omega arith)
+
+pub line_found : {l : ℕ} {s : List ℕ} {x : Extent} → 0 < length s → Ok x ≡ refused l (scan s) → Found l s x
+line_found {l} {s} {x} some e = found l s x (scan s) e (line_sound l s some)
+
+halted : (l : ℕ) (s : List ℕ) (f : ListingFault) (o : Result Extent ℕ) → Err f ≡ refused l o → LineIs l s o → ((c : ℕ) × Stops s c × (row f ≡ malformed_at l c))
+halted l s f (Ok y) e h = absurd (suc-ne-zero 0 cc)
+halted l s f (Err a) e h = (a + 1, h, (let q : f ≡ Malformed l (a + 1) = cc in ap row q))
+
+pub line_refused : {l : ℕ} {s : List ℕ} {f : ListingFault} → 0 < length s → Err f ≡ refused l (scan s) → ((c : ℕ) × Stops s c × (row f ≡ malformed_at l c))
+line_refused {l} {s} {f} some e = halted l s f (scan s) e (line_sound l s some)
+
+-- a line that is found ends before the text does
 pub found_within : {l : ℕ} {s : List ℕ} {x : Extent} → Found l s x → size_of x < length s
 found_within f = let e = ap length f.split in let a = length-append f.text (10 ∷ f.left) in let n = f.size in omega arith
-
--- what the reader's answer says, from what it found
-pub found : (l : ℕ) (s : List ℕ) (x : Extent) (o : Result Extent ℕ) → Ok x ≡ refused l o → LineIs l s o → Found l s x
-found l s x (Ok y) e h = let P : Extent → Type 0 = λ z. Found l s z in subst P (let q : y ≡ x = cc in q) h
-found l s x (Err a) e h = absurd (let z : ◌≡◌ {A = ℕ} 0 1 = cc in omega arith)
-
-pub halted : (l : ℕ) (s : List ℕ) (f : ListingFault) (o : Result Extent ℕ) → Err f ≡ refused l o → LineIs l s o → ((c : ℕ) × Stops s c × (row f ≡ malformed_at l c))
-halted l s f (Ok y) e h = absurd (let z : ◌≡◌ {A = ℕ} 0 1 = cc in omega arith)
-halted l s f (Err a) e h = (a + 1, h, (let q : f ≡ Malformed l (a + 1) = cc in ap row q))
 
 pub taken : (l n : ℕ) (s : List ℕ) (x : Extent) (r : Line) → Found l s x → spots_of r ≡ spots_by l s x → n ≡ size_of x →
     Taken l (l + 1) s (take (length s - (n + 1)) (drop (n + 1) s)) r

@@ -1,5 +1,6 @@
 -- The frames of steps, and their text.
 use Rattle.std.proofs.Common.{◌≡◌, ℕ, zero, suc, ◌+◌, ◌*◌, ◌<◌, ◌≤◌, Bool, true, false, cond, List, [], ◌∷◌, ◌++◌, length, get_or, take, drop, Some, None, Ok, Err, Option, sym, refl, ap, ◌∙◌, subst, ap₂, arith, lit≤, length-append, length-take}
+use Rattle.std.proofs.Math.Nat.{suc-ne-zero}
 use Rattle.std.proofs.lemmas.List.{append-nil, map-append, drop_more, take_more, take-append-drop}
 use Rattle.std.proofs.lemmas.Bool.{and_parts, leb-true, ltb-true}
 use Rattle.memory.specs.declared.kind.Kind.{Kind}
@@ -70,8 +71,8 @@ some_bytes o a s = let l = length-built o (listed o) a s refl in omega arith
 -- a step that is listed
 passed : (a b : Bool) (x y : PlanListingFault) → cond a (cond b None (Some y)) (Some x) ≡ None → (a ≡ true) × (b ≡ true)
 passed true true x y e = (refl, refl)
-passed true false x y e = let z : ◌≡◌ {A = ℕ} 0 1 = cc in absurd (omega arith)
-passed false b x y e = let z : ◌≡◌ {A = ℕ} 0 1 = cc in absurd (omega arith)
+passed true false x y e = absurd (suc-ne-zero 0 cc)
+passed false b x y e = absurd (suc-ne-zero 0 cc)
 
 module _ (sent : List ℕ) (s : Step) (ok : unlisted sent s ≡ None) where
   pub is_filled : filled s.kind (lies s.place s.length (length sent)) ≡ true
@@ -95,7 +96,7 @@ module _ (sent : List ℕ) (s : Step) (ok : unlisted sent s ≡ None) where
 -- steps of which none is refused
 or_none : (o p : Option PlanListingFault) → or_else o p ≡ None → (o ≡ None) × (p ≡ None)
 or_none None p e = (refl, e)
-or_none (Some f) p e = let z : ◌≡◌ {A = ℕ} 0 1 = cc in absurd (omega arith)
+or_none (Some f) p e = absurd (suc-ne-zero 0 cc)
 
 pub unlisted_at : (sent : List ℕ) (steps : List Step) (i : ℕ) (d : Step) → first_unlisted sent steps ≡ None → i < length steps → unlisted sent (get_or steps i d) ≡ None
 unlisted_at sent [] i d e h = absurd (omega arith)
@@ -108,12 +109,12 @@ first_here sent steps i d f h e = ap (first_unlisted sent) (drop_more steps i d 
 
 -- what the check of a step, or of the steps, says
 pub checked_some : (o : Option PlanListingFault) (f : PlanListingFault) → Err f ≡ checked o → o ≡ Some f
-checked_some None f e = absurd (let z : ◌≡◌ {A = ℕ} 0 1 = cc in omega arith)
+checked_some None f e = absurd (suc-ne-zero 0 cc)
 checked_some (Some g) f e = let h : g ≡ f = cc in ap (λ x. Some x) h
 
 pub checked_none : (o : Option PlanListingFault) → Ok tt ≡ checked o → o ≡ None
 checked_none None e = refl
-checked_none (Some g) e = absurd (let z : ◌≡◌ {A = ℕ} 0 1 = cc in omega arith)
+checked_none (Some g) e = absurd (suc-ne-zero 0 cc)
 
 -- a line of bytes and nothing wanted back
 pub line-bytes : (w : List ℕ) → 0 < length w → length (line_text (exchange w 0)) ≡ 3 * length w

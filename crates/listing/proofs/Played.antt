@@ -1,5 +1,6 @@
 -- The frames of cycles, played on a chip that accepts them.
 use Rattle.std.proofs.Common.{◌≡◌, ℕ, zero, suc, ◌-◌, ◌*◌, ◌<◌, ◌≤◌, Bool, true, false, cond, not, ◌&&◌, eqb, ltb, leb, List, [], ◌∷◌, ◌++◌, length, is_some, Some, None, Option, sym, refl, ap, ◌∙◌, subst, ap₂, arith}
+use Rattle.std.proofs.Math.Nat.{suc-ne-zero}
 use Rattle.std.proofs.lemmas.Bool.{cond-true, eq-eqb, and_parts, and_from, ltb-true, leb-true, lt-ltb, false≢true}
 use Rattle.memory.specs.Shape.{size, sector_at}
 use Rattle.memory.specs.Protection.{protects}
@@ -164,7 +165,7 @@ leads-done k y ys to c L =
     }
 
 no_frames : (x : Exchange) (xs : List Exchange) → [] ≡ x ∷ xs → ⊥
-no_frames x xs e = let z : ◌≡◌ {A = ℕ} 0 1 = cc in omega arith
+no_frames x xs e = suc-ne-zero 0 cc
 
 -- however they are played
 played : {c d : Chip} {xs : List Exchange} {ks : List ℕ} {zs : List Cycle} → Plays c xs ks d zs → (o : Option Cycle) (ys : List Cycle) (to : List ℕ)

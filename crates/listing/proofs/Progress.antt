@@ -1,5 +1,6 @@
 -- A text read line by line.
 use Rattle.std.proofs.Common.{◌≡◌, ℕ, ◌+◌, ◌≤◌, List, [], ◌∷◌, ◌++◌, length, drop, Some, None, Ok, Err, Option, Result, sym, refl, ap, ◌∙◌, subst, append_assoc, arith, length-append}
+use Rattle.std.proofs.Math.Nat.{suc-ne-zero}
 use Rattle.std.proofs.lemmas.List.{append-nil, length-drop}
 use Rattle.listing.specs.declared.fault.ListingFault.{ListingFault}
 use Rattle.listing.specs.declared.item.Line.{Line}
@@ -174,7 +175,7 @@ copying_goes p h = stopped p.reads refl h
   where
     stopped : {l : ℕ} {s : List ℕ} {is : List Spot} {xs : List Exchange} {e : Ending} {c : ℕ} → Reads l s is xs e → e ≡ ended → Stops s c → ⊥
     stopped over f h = h.some refl
-    stopped (broken {l} {c} k) f h = let z : ◌≡◌ {A = ℕ} 0 1 = cc in omega arith
+    stopped (broken {l} {c} k) f h = suc-ne-zero 0 cc
     stopped (line {w} {t} a r) f h = no_stop t (w ++ 10 ∷ t) _ a h refl
 
 -- so when it gives no line, all is written
@@ -185,8 +186,8 @@ copying_over m rest (Ok (Some r)) p h k = absurd (k r refl)
 copying_over m rest (Err f) p h k = absurd (copying_goes p h.1)
 
 -- the reader's answer, taken apart
-pub next_some : (l m : ℕ) (was left : List ℕ) (o : Option Line) (r : Line) → o ≡ Some r → Next l m was left (Ok o) → Taken l m was left r
-next_some l m was left o r e h = let P : Option Line → Type 0 = λ x. Next l m was left (Ok x) in subst P e h
+pub next_some : {l m : ℕ} {was left : List ℕ} {o : Option Line} {r : Line} → o ≡ Some r → Next l m was left (Ok o) → Taken l m was left r
+next_some {l} {m} {was} {left} e h = let P : Option Line → Type 0 = λ x. Next l m was left (Ok x) in subst P e h
 
-pub next_none : (l m : ℕ) (was left : List ℕ) (o : Option Line) → o ≡ None → Next l m was left (Ok o) → was ≡ []
-next_none l m was left o e h = let P : Option Line → Type 0 = λ x. Next l m was left (Ok x) in (subst P e h).0
+pub next_none : (l m : ℕ) {was : List ℕ} (left : List ℕ) {o : Option Line} → o ≡ None → Next l m was left (Ok o) → was ≡ []
+next_none l m {was} left e h = let P : Option Line → Type 0 = λ x. Next l m was left (Ok x) in (subst P e h).0

@@ -1,5 +1,6 @@
 -- A text reads in one way.
 use Rattle.std.proofs.Common.{◌≡◌, ℕ, ◌+◌, ◌-◌, List, [], ◌∷◌, ◌++◌, length, take, drop, Some, None, Option, sym, refl, ap, ◌∙◌, subst, arith, length-append}
+use Rattle.std.proofs.Math.Nat.{suc-ne-zero}
 use Rattle.std.proofs.lemmas.List.{append-nil, take_at, drop_at}
 use Rattle.listing.specs.Parts.{Part, note, frame, count, Spot, Exchange, exchange}
 use Rattle.listing.specs.Grammar.{LineText, noted, framed, counted, Stops, Ending, ended, failed, Reads, over, broken, line, Unambiguous}
@@ -65,7 +66,7 @@ no_stop t s c a h e =
     let g = p.scanned in
     let k = ap scan e in
     let m = stops_read s c h in
-    let z : ◌≡◌ {A = ℕ} 0 1 = cc in omega arith
+    suc-ne-zero 0 cc
 
 not_empty : (w t : List ℕ) → [] ≡ w ++ 10 ∷ t → ⊥
 not_empty w t e = let n = ap length e in let k = length-append w (10 ∷ t) in omega arith

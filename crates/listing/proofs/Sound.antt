@@ -1,5 +1,6 @@
 -- What the reader finds in a line is what the grammar says.
 use Rattle.std.proofs.Common.{◌≡◌, ℕ, zero, suc, ◌+◌, ◌<◌, ◌≤◌, Bool, true, false, cond, eqb, List, [], ◌∷◌, ◌++◌, length, get_or, drop, Some, None, Ok, Err, Option, Result, sym, refl, ap, ◌∙◌, subst, append_assoc, arith, length-append}
+use Rattle.std.proofs.Math.Nat.{suc-ne-zero}
 use Rattle.std.proofs.lemmas.Bool.{eqb-true, eqb-false}
 use Rattle.std.proofs.lemmas.Bool.Decides.{nat_tests}
 use Rattle.std.proofs.lemmas.List.{drop-drop, length-drop, get_or-drop}
@@ -90,7 +91,7 @@ count-sound at s = go (pair_of s) refl
         count_past at s (drop 2 s) l.spelled (eqb-false v 0 z) (l.text ∙ ap (λ y. l.word ++ y) (sym d)) (end_sound (at + 2) (drop 2 s))
 
     go : (o : Option ℕ) → pair_of s ≡ o → AtCount at s (on_pair o (Err at) (λ v. cond (eqb v 0) (Err at) (at_end (at + 2) (drop 2 s))))
-    go None e = fails at (broke_here wanted at s (no_count at s (λ v f k. let z : ◌≡◌ {A = ℕ} 0 1 = cc in omega arith)))
+    go None e = fails at (broke_here wanted at s (no_count at s (λ v f k. suc-ne-zero 0 cc)))
     go (Some v) e = zeroed v (eqb v 0) e refl
 
 -- after `>`
@@ -227,7 +228,7 @@ pairs-step at s q o rest = subst (AtPairs q at s) (sym (pairs_turn at s)) (turn 
         pairs_last at s (drop 2 s) (opening-step o l.spelled) l.spelled (l.text ∙ ap (λ y. l.word ++ y) (sym d)) (closing-sound (at + 2) (drop 2 s) g)
 
     turn : (x : Option ℕ) → pair_of s ≡ x → AtPairs q at s (on_pair x (Err at) (λ _. cond (goes_on (drop 2 s)) (pairs (at + 3) (drop 3 s)) (closing (at + 2) (drop 2 s))))
-    turn None e = fails at (broke_here q at s (opening-stuck o (λ v f. let z : ◌≡◌ {A = ℕ} 0 1 = cc in omega arith)))
+    turn None e = fails at (broke_here q at s (opening-stuck o (λ v f. suc-ne-zero 0 cc)))
     turn (Some v) e = going v (goes_on (drop 2 s)) e refl
 
 pub pairs-sound : (n at : ℕ) (s : List ℕ) (q : Place) → length s ≤ n → Opening q s → AtPairs q at s (pairs at s)
@@ -262,10 +263,10 @@ inside_past at b s h (fails e k) = fails e (broke_step at (at + 1) (b ∷ s) s e
 
 pub inside-sound : (at : ℕ) (s : List ℕ) → Inside at s (inside at s)
 unfolding inside
-inside-sound at [] = fails at (broke_here in_note at [] (wrong, λ t m x. (let z : ◌≡◌ {A = ℕ} 0 1 = cc in omega arith)))
+inside-sound at [] = fails at (broke_here in_note at [] (wrong, λ t m x. (suc-ne-zero 0 cc)))
   where
     wrong : (w t : List ℕ) (q : Place) → Step in_note w q → [] ≡ w ++ t → ⊥
-    wrong w t q (notes h) x = let z : ◌≡◌ {A = ℕ} 0 1 = cc in omega arith
+    wrong w t q (notes h) x = suc-ne-zero 0 cc
 inside-sound at (b ∷ s) = go (eqb b 10) refl (inside-sound (at + 1) s)
   where
     go : (c : Bool) → eqb b 10 ≡ c → Inside (at + 1) s (inside (at + 1) s) → Inside at (b ∷ s) (cond c (Ok (Note at)) (inside (at + 1) s))

@@ -1,5 +1,6 @@
 -- Pairs and their values.
 use Rattle.std.proofs.Common.{◌≡◌, ℕ, ◌+◌, ◌<◌, ◌≤◌, Bool, true, false, cond, eqb, ◌⊎◌, List, [], ◌∷◌, ◌++◌, length, get_or, take, drop, set, Some, None, Ok, Err, Option, Result, sym, refl, ap, ◌∙◌, subst, inl, inr, arith}
+use Rattle.std.proofs.Math.Nat.{suc-ne-zero}
 use Rattle.std.proofs.lemmas.List.{append-nil, append_assoc, drop-drop, drop_all, drop_more, take_more, set_at, length-drop, length-take-le}
 use Rattle.std.proofs.lemmas.Bool.{eqb-true, eq-eqb, ne_eqb, cases_eq, cases_lt}
 use Rattle.listing.specs.Hex.{Pair, pair, Pairs, one, more}
@@ -30,7 +31,7 @@ values-read {w} at (one p) = ap (values at) (sym (append-nil w)) ∙ values-pair
 values-read at (more {s} {v} p ps) = values-pair at (32 ∷ s) p ∙ ap (before v) (values-read (at + 3) ps)
 
 no_result : (at : ℕ) (x : List ℕ) → ◌≡◌ {A = Result (List ℕ) ℕ} (Err at) (Ok x) → ⊥
-no_result at x e = let z : ◌≡◌ {A = ℕ} 0 1 = cc in omega arith
+no_result at x e = suc-ne-zero 0 cc
 
 last_pair : (at : ℕ) (a b : ℕ) (bs : List ℕ) (o : Option ℕ) → pair_of (a ∷ b ∷ []) ≡ o → on_pair o (Err at) (λ v. Ok (v ∷ [])) ≡ Ok bs → Pairs (a ∷ b ∷ []) bs
 last_pair at a b bs None e f = absurd (no_result at bs f)

@@ -7,5 +7,5 @@ pub play-requires : goal.play-requires
 play-requires c =
     let v = ap length c.deref_mut.ensures.value in
     let i = c.loop-line.invariant in
-    let t = next_some c.loop-line.reader.line c.next_line.new.self.line c.loop-line.reader.rest.now c.next_line.new.self.rest.now c.in-Ok-Some.field-0 c.in-Ok-Some.line c.in-Ok-Some.field-0-is c.in-Ok-Some.ensures in
+    let t = next_some c.in-Ok-Some.field-0-is c.in-Ok-Some.ensures in
     given_playable t (omega arith)

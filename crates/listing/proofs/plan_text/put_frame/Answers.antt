@@ -3,29 +3,17 @@ use Rattle.std.proofs.lemmas.List.{take_at}
 use Rattle.std.proofs.lemmas.Bool.{cond-true, le-leb}
 use Rattle.port.specs.declared.fault.PortFault.{PortFault}
 use Rattle.port.specs.Build.{built}
-use Rattle.listing.specs.Parts.{exchange}
-use Rattle.listing.specs.Writing.{line_text}
 use Rattle.listing.proofs.Planned.{some_bytes}
-use Rattle.listing.proofs.Sheets.{wrote_is}
 use Rattle.listing.proofs.plan_text.put_frame.Goals as goal
 
 same_ok : (m n : ℕ) → ◌≡◌ {A = Result ℕ PortFault} (Ok m) (Ok n) → m ≡ n
 same_ok m n e = cc
 
-pub put_bytes-requires : goal.put_bytes-requires
-put_bytes-requires c =
+pub put_bytes-requires-clause-some : goal.put_bytes-requires-clause-some
+put_bytes-requires-clause-some c =
     let f : List ℕ = built c.args.operation c.args.address c.args.data.now in
     let n : c.in-Ok.n ≡ length f = same_ok _ _ (c.in-Ok.ensures.result ∙ cond-true _ _ _ (le-leb _ _ c.requires.short)) in
     let sent : List ℕ = take (c.in-Ok.n - 0) (drop 0 c.build.new.into) in
     let s : sent ≡ f = ap (take (c.in-Ok.n - 0)) c.in-Ok.ensures.bytes ∙ take_at f _ (c.in-Ok.n - 0) (omega arith) in
     let b = some_bytes c.args.operation c.args.address c.args.data.now in
-    let l = ap length s in
-    let m = ap (λ x. length (line_text (exchange x 0))) s in record { some = omega arith; room = omega arith }
-
-pub returns : goal.returns
-returns c =
-    let f : List ℕ = built c.args.operation c.args.address c.args.data.now in
-    let n : c.in-Ok.n ≡ length f = same_ok _ _ (c.in-Ok.ensures.result ∙ cond-true _ _ _ (le-leb _ _ c.requires.short)) in
-    let sent : List ℕ = take (c.in-Ok.n - 0) (drop 0 c.build.new.into) in
-    let s : sent ≡ f = ap (take (c.in-Ok.n - 0)) c.in-Ok.ensures.bytes ∙ take_at f _ (c.in-Ok.n - 0) (omega arith) in
-    wrote_is c.put_bytes.ensures (ap (λ x. line_text (exchange x 0)) s)
+    let l = ap length s in omega arith

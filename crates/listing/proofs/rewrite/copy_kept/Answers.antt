@@ -4,12 +4,12 @@ use Rattle.listing.proofs.rewrite.copy_kept.Goals as goal
 
 pub keep-requires : goal.keep-requires
 keep-requires c =
-    let t = next_some c.loop-line.reader.line c.next_line.new.self.line c.loop-line.reader.rest.now c.next_line.new.self.rest.now c.in-Ok-Some.field-0 c.in-Ok-Some.line c.in-Ok-Some.field-0-is c.in-Ok-Some.ensures in
+    let t = next_some c.in-Ok-Some.field-0-is c.in-Ok-Some.ensures in
     copying_room c.loop-line.invariant.0 t
 
 pub loop-line-preserved : goal.loop-line-preserved
 loop-line-preserved c =
-    let t = next_some c.loop-line.reader.line c.next_line.new.self.line c.loop-line.reader.rest.now c.next_line.new.self.rest.now c.in-Ok-Some.field-0 c.in-Ok-Some.line c.in-Ok-Some.field-0-is c.in-Ok-Some.ensures in
+    let t = next_some c.in-Ok-Some.field-0-is c.in-Ok-Some.ensures in
     (copying_more c.loop-line.invariant.0 t c.keep.ensures.buffer c.keep.ensures.place, c.keep.ensures.same ∙ c.loop-line.invariant.1)
 
 pub returns-in-loop-line : goal.returns-in-loop-line

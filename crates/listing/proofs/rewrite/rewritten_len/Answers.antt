@@ -18,20 +18,17 @@ returns-in_err-line c =
     rw (p.1, p.2) (record { measured = progress_fails c.in_err-line.field-0.0 h.0 c.loop-line.invariant h.1 h.2; unambiguous = unambiguous })
 
 pub kept_len-needed-requires : goal.kept_len-needed-requires
-kept_len-needed-requires c = let k = kept-fits c.loop-line.invariant (next_some c.loop-line.reader.line c.next_line.new.self.line c.loop-line.reader.rest.now c.next_line.new.self.rest.now
-    c.in_ok-line.field-0 c.in-Some.line c.in-Some.is c.in_ok-line.ensures) in omega arith
+kept_len-needed-requires c = let k = kept-fits c.loop-line.invariant (next_some c.in-Some.is c.in_ok-line.ensures) in omega arith
 
 pub overflow_add-needed : goal.overflow_add-needed
-overflow_add-needed c = let k = kept-fits c.loop-line.invariant (next_some c.loop-line.reader.line c.next_line.new.self.line c.loop-line.reader.rest.now c.next_line.new.self.rest.now
-    c.in_ok-line.field-0 c.in-Some.line c.in-Some.is c.in_ok-line.ensures) in omega arith
+overflow_add-needed c = let k = kept-fits c.loop-line.invariant (next_some c.in-Some.is c.in_ok-line.ensures) in omega arith
 
 pub loop-line-preserved : goal.loop-line-preserved
 loop-line-preserved c =
     let P : ℕ → Type 0 = λ n. Progress c.args.text.now c.next_line.new.self.line c.next_line.new.self.rest.now (c.loop-line.needed + n) in
-    subst P (sym c.kept_len-needed.ensures) (progress_more c.loop-line.invariant (next_some c.loop-line.reader.line c.next_line.new.self.line c.loop-line.reader.rest.now c.next_line.new.self.rest.now
-    c.in_ok-line.field-0 c.in-Some.line c.in-Some.is c.in_ok-line.ensures))
+    subst P (sym c.kept_len-needed.ensures) (progress_more c.loop-line.invariant (next_some c.in-Some.is c.in_ok-line.ensures))
 
 pub returns : goal.returns
 returns c =
-    let e = next_none c.loop-line.reader.line c.next_line.new.self.line c.loop-line.reader.rest.now c.next_line.new.self.rest.now c.in_ok-line.field-0 c.in_default.is c.in_ok-line.ensures in
+    let e = next_none c.loop-line.reader.line c.next_line.new.self.line c.next_line.new.self.rest.now c.in_default.is c.in_ok-line.ensures in
     record { measured = progress_end c.loop-line.invariant e; unambiguous = unambiguous }
