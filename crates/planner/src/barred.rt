@@ -1,5 +1,5 @@
 // The lowest byte of a protected sector that a write would change.
-ghost use Rattle.std.specs.Prelude.{◌≡◌, ℕ, ◌+◌, ◌*◌, ◌≤◌};
+ghost use Rattle.std.specs.Prelude.{◌+◌, ◌*◌};
 ghost use Rattle.part.specs.Meaning.{protected_at};
 ghost use Rattle.least.specs.Barred.{LowestIs};
 ghost use Rattle.planner.specs.Asking.{for_barred};

@@ -1,5 +1,5 @@
 // Looking at a part's pages, and at what a write wants of them.
-ghost use Rattle.std.specs.Prelude.{◌≡◌, ◌+◌, ◌<◌, ◌≤◌, length};
+ghost use Rattle.std.specs.Prelude.{◌≡◌, ◌+◌, ◌<◌};
 ghost use Rattle.memory.specs.Page.{page};
 ghost use Rattle.part.specs.Meaning.{protected_at};
 ghost use Rattle.planner.specs.Looking.{Fitting, LookedBy, Readable, touched, wanted};

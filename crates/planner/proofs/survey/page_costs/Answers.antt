@@ -1,4 +1,4 @@
-use Rattle.std.proofs.Common.{sym, ◌∙◌, subst, ap₂, arith}
+use Rattle.std.proofs.Common.{replicate, sym, ap, ◌∙◌, subst, ap₂, arith}
 use Rattle.std.proofs.lemmas.Bool.{cond-true, cond-false}
 use Rattle.least.specs.Fewest.{fewest}
 use Rattle.least.specs.Window.{window}
@@ -35,6 +35,6 @@ returns g c =
       preset =
           λ h.
           c.page_cost-2.ensures.value
-          ∙ (ap₂ (λ o n. window_cost fewest (window 64 o n)) c.blank.ensures (pages.new h)
+          ∙ (ap (λ n. window_cost fewest (window 64 (replicate 64 255) n)) (pages.new h)
           ∙ sym (cond-true _ _ _ touched));
     }

@@ -1,8 +1,5 @@
-use Rattle.std.proofs.Common.{sym, ap, ◌∙◌, subst, arith}
+use Rattle.std.proofs.Common.{sym, ◌∙◌, subst, arith}
 use Rattle.std.proofs.lemmas.Bool.{cond-true, cond-false}
-use Rattle.least.specs.Fewest.{fewest}
-use Rattle.least.specs.Window.{window}
-use Rattle.least.specs.Plan.{window_cost}
 use Rattle.planner.specs.Looking.{LookedBy}
 use Rattle.planner.proofs.Lookings.{looked_none, page-low}
 use Rattle.planner.proofs.Surveys.{preset_off_lem}
@@ -32,6 +29,5 @@ returns g c =
       value =
           λ h.
           c.page_cost.ensures.value
-          ∙ (ap (λ o. window_cost fewest (window 64 o c.read_page-page.result)) c.blank.ensures
-          ∙ preset_off_lem m c.args.q c.requires.1 c.args.write.address c.args.write.bytes.now c.requires.0 c.read_page-page.result (page.bytes h) off);
+          ∙ preset_off_lem m c.args.q c.requires.1 c.args.write.address c.args.write.bytes.now c.requires.0 c.read_page-page.result (page.bytes h) off;
     }
