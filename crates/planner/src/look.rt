@@ -58,8 +58,7 @@ pub(crate) fn wanted_page<P: Part>(part: &mut P, write: Write<'_>, q: usize) -> 
 {
     let start = q * PAGE_BYTES;
     if write.address > start || write.address + write.bytes.len() < start + PAGE_BYTES {
-        let pages = both_pages(part, write, q);
-        return pages.1;
+        return both_pages(part, write, q).1;
     }
     let mut bytes = [0; PAGE_BYTES];
     overlay(&mut bytes, start, write);
