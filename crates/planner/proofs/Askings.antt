@@ -79,6 +79,3 @@ module _ (m n : Meaning) (e : n ≡ m) where
 
   pub asked-all : 2 * whole m + whole n ≤ 3 * whole m
   asked-all = omega (arith, ap whole e)
-
-pub asked-barred : (m : Meaning) → for_barred m ≤ 3 * whole m
-asked-barred m = omega (arith, asked_most m m refl)

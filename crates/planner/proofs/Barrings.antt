@@ -57,14 +57,6 @@ pub first_more :
 first_more from mid to end image wanted e h k a l u =
     ⊎_elim (λ v. h a l v) (λ v. k a v (omega arith)) (cases_lt a mid)
 
-pub first_later :
-    (from mid to end : ℕ) (image wanted : List ℕ) (p : ℕ) → from ≤ mid → to ≤ end → FirstIn from mid image wanted None
-    → FirstIn mid to image wanted (Some p) → FirstIn from end image wanted (Some p)
-first_later from mid to end image wanted p i e h k =
-    let a = k.0 in
-    let b = k.1 in
-    (omega arith, omega arith, k.2, λ a l u. ⊎_elim (λ v. h a l v) (λ v. k.3 a v u) (cases_lt a mid))
-
 module _ (m : Meaning) (S : Sound m) (wanted : List ℕ) (k p : ℕ) (e : p ≡ m.shape.pages) where
   real : Real m.shape
   real = record { pages = S.paged; bytes = omega (arith, S.page) }

@@ -11,7 +11,7 @@ use Rattle.part.specs.Meaning.{Meaning, Sound, protected_at}
 use Rattle.part.specs.Verdict.{idle}
 use Rattle.planner.specs.declared.chosen.Choice.{Choice}
 use Rattle.planner.specs.declared.fault.PlanFault.{PlanFault}
-use Rattle.planner.specs.declared.fault.PlanFault.TheVariants.{Outside, Busy, Protected, StepsShort, DataShort}
+use Rattle.planner.specs.declared.fault.PlanFault.TheVariants.{Protected, StepsShort, DataShort}
 use Rattle.least.specs.declared.step.Step.{Step}
 use Rattle.least.specs.Barred.{LowestIs, lowest_barred}
 use Rattle.least.specs.Fewest.{fewest}
@@ -224,33 +224,6 @@ put_all l steps steps' sent sent' n d e f u v h =
     let k = length-steps 0 l in
     let p = h (omega arith) (omega arith) in
     (p.0 ∙ sets_all steps n (steps_of l) e u, p.1 ∙ sets_all sent d (data_of l) f v)
-
--- the call: the range, polls due, and then the planning of a write
-module _
-    (m : Meaning) (address : ℕ) (bytes : List ℕ) (step_room data_room : ℕ) (steps steps' : List Step) (sent sent' : List ℕ) where
-  abbrev HandedIf : Bool → Bool → Result (ℕ × ℕ) PlanFault → Type 0
-  HandedIf inside quiet r =
-      Handed
-      (cond inside (cond quiet (plan_inside m address bytes step_room data_room) (refused polls_due)) (refused (past_the_end address)))
-      r steps steps' sent sent'
-
-  pub handed_outside :
-      leb (address + length bytes) (size m.shape) ≡ false → steps' ≡ steps → sent' ≡ sent
-      → Handed (plan_call m address bytes step_room data_room) (Err (Outside address)) steps steps' sent sent'
-  handed_outside h u v = subst (λ (b : Bool). HandedIf b (idle m) (Err (Outside address))) (sym h) (refl, u, v)
-
-  pub handed_busy :
-      leb (address + length bytes) (size m.shape) ≡ true → idle m ≡ false → steps' ≡ steps → sent' ≡ sent
-      → Handed (plan_call m address bytes step_room data_room) (Err Busy) steps steps' sent sent'
-  handed_busy h k u v =
-      subst (λ (b : Bool). HandedIf b (idle m) (Err Busy)) (sym h) (subst (λ (b : Bool). HandedIf true b (Err Busy)) (sym k) (refl, u, v))
-
-  pub handed_inside :
-      leb (address + length bytes) (size m.shape) ≡ true → idle m ≡ true → (r : Result (ℕ × ℕ) PlanFault)
-      → Handed (plan_inside m address bytes step_room data_room) r steps steps' sent sent'
-      → Handed (plan_call m address bytes step_room data_room) r steps steps' sent sent'
-  handed_inside h k r t =
-      subst (λ (b : Bool). HandedIf b (idle m) r) (sym h) (subst (λ (b : Bool). HandedIf true b r) (sym k) t)
 
 -- with nothing due it answers as planning a write does
 pub call_idle :

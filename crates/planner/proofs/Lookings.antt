@@ -1,5 +1,5 @@
 -- One look at a part after another, and what the pages of a part then are.
-use Rattle.std.proofs.Common.{◌≡◌, ℕ, ◌+◌, ◌*◌, ◌<◌, ◌≤◌, false, List, [], ◌∷◌, ◌++◌, length, sym, refl, ap, ◌∙◌, inl, inr, ⊎_elim, add_assoc, zero-add, arith}
+use Rattle.std.proofs.Common.{◌≡◌, ℕ, ◌+◌, ◌*◌, ◌≤◌, false, List, [], ◌∷◌, ◌++◌, length, sym, ap, ◌∙◌, inl, inr, ⊎_elim, add_assoc, zero-add, arith}
 use Rattle.std.proofs.lemmas.Nat.{mul-le}
 use Rattle.std.proofs.lemmas.Bool.{and_cases, ltb-false}
 use Rattle.memory.specs.Shape.{size}
@@ -8,7 +8,7 @@ use Rattle.memory.proofs.Blocks.{below_end, length-block}
 use Rattle.part.specs.declared.part.Part.{Ghosts}
 use Rattle.part.specs.Meaning.{Meaning, Event, Sound, asked, carried, polled, cycles, polls}
 use Rattle.planner.specs.Overlay.{overlaid}
-use Rattle.planner.specs.Looking.{Fitting, Looked, LookedBy, Readable, asked_bytes, touched, wanted}
+use Rattle.planner.specs.Looking.{Fitting, LookedBy, Readable, asked_bytes, touched, wanted}
 use Rattle.planner.proofs.Overlays.{block-wanted, length-overlaid, overlaid_off}
 
 cycles_join : (l k : List Event) → cycles l ≡ [] → cycles k ≡ [] → cycles (l ++ k) ≡ []
@@ -30,9 +30,6 @@ asked_join (carried c ∷ l) k = asked_join l k
 asked_join (polled ∷ l) k = asked_join l k
 
 module _ {S : Type 0} (part : Ghosts S) where
-  pub looked_none : (n : ℕ) (a : S) → part.trace a a [] → LookedBy part n a a
-  looked_none n a t = record { same = refl; keeps = λ h. h; asked = ([], t, refl, refl, omega arith) }
-
   pub looked_join :
       ((a b c : S) (l m : List Event) → part.trace a b l → part.trace b c m → part.trace a c (l ++ m)) → (n k r : ℕ) (a b c : S)
       → LookedBy part n a b → LookedBy part k b c → n + k ≤ r
@@ -62,10 +59,6 @@ module _ {S : Type 0} (part : Ghosts S) where
         asked = (p.asked.0, p.asked.1, p.asked.2, p.asked.3, omega (arith, h, p.asked.4));
       }
 
-  pub looked_by : (n : ℕ) (a b : S) → LookedBy part n a b → Looked part a b
-  looked_by n a b p =
-      record { same = p.same; keeps = p.keeps; asked = (p.asked.0, p.asked.1, p.asked.2, p.asked.3) }
-
 -- a part has at most 262,144 pages, 16 MiB
 pub pages_most : (m : Meaning) → Sound m → m.shape.sectors * m.shape.pages ≤ 262144
 pages_most m S = mul-le m.shape.sectors m.shape.pages 128 2048 S.few S.low
@@ -76,9 +69,6 @@ size_is m S = ap (λ y. m.shape.sectors * m.shape.pages * y) S.page
 module _ (m : Meaning) (q : ℕ) (R : Readable m q) where
   pub page-inside : q * 64 + 64 ≤ size m.shape
   page-inside = omega (arith, below_end 64 q (m.shape.sectors * m.shape.pages) R.here, size_is m R.sound)
-
-  pub page-low : q < 262144
-  page-low = omega (arith, R.here, pages_most m R.sound)
 
   pub length-here : length (page 64 q m.image) ≡ 64
   length-here = length-block (q * 64) 64 m.image (omega (arith, page-inside, R.sound.imaged.whole))

@@ -127,32 +127,3 @@ none_of prot a (suc n) =
 
 pub free_is : (prot : ℕ → Bool) (n : ℕ) → not (list_any prot (range_with_len 0 n)) ≡ free prot n
 free_is prot n = sym (and-true _) ∙ none_of prot 0 n ∙ ap (free prot) (zero-add n)
-
--- the choice between the sectors and a bulk erase, which may not be accepted
-module _ (fr : Bool) (limit cost : ℕ × ℕ) where
-  some_free : (e : ℕ × ℕ) (b : Bool) → Some e ≡ cond b (below limit cost) None → (b ≡ true) × (Some e ≡ below limit cost)
-  some_free e true t = (refl, t)
-  some_free e false t = let z : ◌≡◌ {A = ℕ} 0 1 = cc in absurd (omega arith)
-
-  pub chose_bulk :
-      (e : ℕ × ℕ) → Some e ≡ cond fr (below limit cost) None
-      → (true ≡ (fr && not (fewest.leq limit cost))) × (e ≡ cond fr (lesser fewest limit cost) limit)
-  chose_bulk e t =
-      let f = some_free e fr t in
-      let b = below_some limit cost e f.1 in (
-        sym (ap₂ (λ (x y : Bool). x && not y) f.0 b.0),
-        b.1 ∙ sym (ap₂ (λ (x y : Bool). cond x (cond y limit cost) limit) f.0 b.0),
-      )
-
-  pub chose_sectors :
-      None ≡ cond fr (below limit cost) None
-      → (false ≡ (fr && not (fewest.leq limit cost))) × (limit ≡ cond fr (lesser fewest limit cost) limit)
-  chose_sectors t = go fr t
-    where
-      go :
-          (b : Bool) → None ≡ cond b (below limit cost) None
-          → (false ≡ (b && not (fewest.leq limit cost))) × (limit ≡ cond b (lesser fewest limit cost) limit)
-      go true u =
-          let l = below_none limit cost u in
-          (sym (ap (λ (y : Bool). not y) l), sym (ap (λ (y : Bool). cond y limit cost) l))
-      go false u = (refl, refl)

@@ -12,9 +12,6 @@ due_at m d = record { shape = m.shape; image = m.image; guarded = m.guarded; due
 due_of : (m : Meaning) (a b : ℕ) → a ≡ b → due_at m a ≡ due_at m b
 due_of m a b e = ap (due_at m) e
 
-pub waited_none : (m : Meaning) → m ≡ waited_by 0 m
-waited_none m = due_of m m.due (m.due - 0) (omega arith)
-
 pub waited_more : (n : ℕ) (m : Meaning) → waited (waited_by n m) ≡ waited_by (n + 1) m
 waited_more n m = due_of m (m.due - n - 1) (m.due - (n + 1)) (omega arith)
 
@@ -22,9 +19,6 @@ module _ {P : Type 0} (part : Ghosts P)
     (stays : (s : P) → part.trace s s [])
     (joins : (a b c : P) (l m : List Event) → part.trace a b l → part.trace b c m → part.trace a c (l ++ m))
   where
-    pub polls_none : (a : P) → Polls part 0 a a
-    polls_none a = record { leaves = waited_none (part.meaning a); made = stays a; keeps = λ i. i }
-
     pub polls_more : (n : ℕ) (a b c : P) → Polls part n a b
         → part.meaning c ≡ waited (part.meaning b) → part.trace b c (polled ∷ []) → (part.intact b → part.intact c) → Polls part (n + 1) a c
     polls_more n a b c p e t k =

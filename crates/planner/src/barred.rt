@@ -1,5 +1,5 @@
 // The lowest byte of a protected sector that a write would change.
-ghost use Rattle.std.specs.Prelude.{◌≡◌, ℕ, ◌+◌, ◌*◌, ◌≤◌};
+ghost use Rattle.std.specs.Prelude.{◌+◌, ◌*◌};
 ghost use Rattle.part.specs.Meaning.{protected_at};
 ghost use Rattle.least.specs.Barred.{LowestIs};
 ghost use Rattle.planner.specs.Asking.{for_barred};
@@ -26,7 +26,7 @@ fn change<P: Part>(part: &mut P, write: Write<'_>, q: usize) -> Option<usize>
     Some(q * PAGE_BYTES + place)
 }
 
-// Of pages.
+// The lowest one of `count` pages.
 fn change_in<P: Part>(part: &mut P, write: Write<'_>, first: usize, count: usize) -> Option<usize>
     requires fitting { Fitting (P.Part.meaning part.old) write.address write.bytes.now }
     requires count_bound { PagesIn (P.Part.meaning part.old) first count }
@@ -42,6 +42,7 @@ fn change_in<P: Part>(part: &mut P, write: Write<'_>, first: usize, count: usize
     None
 }
 
+// The lowest one of the protected sectors.
 pub(crate) fn lowest_barred<P: Part>(part: &mut P, write: Write<'_>) -> Option<usize>
     requires { Fitting (P.Part.meaning part.old) write.address write.bytes.now }
     ensures looked { LookedBy P.Part (for_barred (P.Part.meaning part.old)) part.old part.new }

@@ -1,5 +1,5 @@
 // How a write is carried out at least cost: all erased first, or sector by sector.
-ghost use Rattle.std.specs.Prelude.{◌≡◌, ℕ, ◌+◌, ◌*◌, ◌<◌, ◌≤◌, length, if◌then◌else◌, None, slice_index_or};
+ghost use Rattle.std.specs.Prelude.{◌≡◌, ℕ, ◌+◌, ◌*◌, ◌<◌, length, if◌then◌else◌, None, slice_index_or};
 ghost use Rattle.memory.specs.Protection.{free};
 ghost use Rattle.part.specs.Meaning.{protected_at};
 ghost use Rattle.least.specs.Fewest.{fewest};

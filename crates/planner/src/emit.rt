@@ -1,5 +1,5 @@
 // The cycles of a choice put on a sheet.
-ghost use Rattle.std.specs.Prelude.{◌≡◌, ℕ, ◌+◌, ◌*◌, ◌<◌, ◌≤◌, length, if◌then◌else◌};
+ghost use Rattle.std.specs.Prelude.{◌≡◌, ◌+◌, ◌*◌, ◌<◌, if◌then◌else◌};
 ghost use Rattle.memory.specs.declared.kind.Kind.TheVariants.{Program, Alter};
 ghost use Rattle.least.specs.Plan.{lowers};
 ghost use Rattle.planner.specs.Asking.{whole};
@@ -12,7 +12,7 @@ ghost use Rattle.planner.specs.Call.{plan_list};
 use crate::chosen::{Choice, Erasure, Pages};
 use crate::look::{both_pages, touches, wanted_page};
 use crate::overlay::Write;
-use crate::page::{Page, blank, only_lowers};
+use crate::page::{BLANK, Page, only_lowers};
 use crate::sheet::Sheet;
 use least::step::Step;
 use memory::geometry::MOST_SECTORS;
@@ -51,7 +51,7 @@ fn put_page<P: Part>(part: &mut P, write: Write<'_>, pages: Pages, q: usize, she
         }
         Pages::Erased => {
             let new = wanted_page(part, write, q);
-            sheet.put_page(Kind::Preset, q, &blank(), &new);
+            sheet.put_page(Kind::Preset, q, &BLANK, &new);
         }
     }
 }

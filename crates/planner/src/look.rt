@@ -1,5 +1,5 @@
 // Looking at a part's pages, and at what a write wants of them.
-ghost use Rattle.std.specs.Prelude.{◌≡◌, ◌+◌, ◌<◌, ◌≤◌, length};
+ghost use Rattle.std.specs.Prelude.{◌≡◌, ◌+◌, ◌<◌};
 ghost use Rattle.memory.specs.Page.{page};
 ghost use Rattle.part.specs.Meaning.{protected_at};
 ghost use Rattle.planner.specs.Looking.{Fitting, LookedBy, Readable, touched, wanted};
@@ -58,8 +58,7 @@ pub(crate) fn wanted_page<P: Part>(part: &mut P, write: Write<'_>, q: usize) -> 
 {
     let start = q * PAGE_BYTES;
     if write.address > start || write.address + write.bytes.len() < start + PAGE_BYTES {
-        let pages = both_pages(part, write, q);
-        return pages.1;
+        return both_pages(part, write, q).1;
     }
     let mut bytes = [0; PAGE_BYTES];
     overlay(&mut bytes, start, write);

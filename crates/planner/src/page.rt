@@ -1,5 +1,5 @@
 // What a page costs, and how it is written.
-ghost use Rattle.std.specs.Prelude.{◌≡◌, ℕ, ◌≤◌, length, replicate};
+ghost use Rattle.std.specs.Prelude.{◌≡◌};
 ghost use Rattle.least.specs.Fewest.{fewest};
 ghost use Rattle.least.specs.Window.{window};
 ghost use Rattle.least.specs.Plan.{lowers, window_cost};
@@ -11,6 +11,9 @@ use memory::model::PAGE_BYTES;
 
 pub(crate) type Page = [u8; PAGE_BYTES];
 
+// Once erased.
+pub(crate) const BLANK: Page = [0xFF; PAGE_BYTES];
+
 // The cost of one page cycle at most.
 pub(crate) fn page_cost(old: &Page, new: &Page) -> Cost
     ensures value { result ≡ window_cost fewest (window 64 old.now new.now) }
@@ -20,13 +23,6 @@ pub(crate) fn page_cost(old: &Page, new: &Page) -> Cost
         Some(run) => (1, run.length),
         None => NOTHING,
     }
-}
-
-// A page once erased.
-pub(crate) fn blank() -> Page
-    ensures { result ≡ replicate 64 255 }
-{
-    [0xFF; PAGE_BYTES]
 }
 
 // Whether no bit rises.

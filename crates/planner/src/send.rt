@@ -1,5 +1,5 @@
 // One step sent to a part.
-ghost use Rattle.std.specs.Prelude.{◌≡◌, ◌≤◌, true, false, cond, [], ◌∷◌, MatchOption, MatchResult};
+ghost use Rattle.std.specs.Prelude.{◌≡◌, true, false, MatchOption, MatchResult};
 ghost use Rattle.memory.specs.Page.{block};
 ghost use Rattle.planner.specs.Running.{Carries, Refuses, held, lies};
 ghost use Rattle.planner.specs.Sent.{Same};

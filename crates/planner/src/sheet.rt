@@ -1,7 +1,6 @@
 // A sheet: a step list and a data buffer, filled from their fronts. Where there is no room nothing is put. The caller lends the two
 // apart, as the planner has no heap, and each may be too short, which is a refusal of its own.
-ghost use Rattle.std.specs.Prelude.{◌≡◌, ℕ, ◌+◌, ◌*◌, ◌^◌, ◌<◌, ◌≤◌, ⊤, true, [], ◌∷◌, length, nat_le};
-ghost use Rattle.std.proofs.lemmas.List.Edits.{sets};
+ghost use Rattle.std.specs.Prelude.{◌≡◌, ◌+◌, ◌*◌, ◌^◌, ◌<◌, ◌≤◌, ⊤, true, [], ◌∷◌, length, nat_le};
 ghost use Rattle.memory.specs.Cycle.{cycle_of};
 ghost use Rattle.least.specs.Plan.{bytes_from, sending};
 ghost use Rattle.least.specs.Steps.{address_of};
@@ -65,8 +64,7 @@ impl<'a> Sheet<'a> {
             place: self.byte_count,
         };
         let end = self.byte_count + length;
-        let data = &mut *self.data;
-        send_bytes(&mut data[self.byte_count..end], new, start);
+        send_bytes(&mut self.data[self.byte_count..end], new, start);
         self.step_count += 1;
         self.byte_count = end;
     }

@@ -1,6 +1,6 @@
 // What a write costs, sector by sector. A page that it touches is read once, for what it costs to keep and once erased; no
 // other page is read unless an erase may still be lower.
-ghost use Rattle.std.specs.Prelude.{◌≡◌, ℕ, ◌+◌, ◌*◌, ◌^◌, ◌<◌, ◌≤◌, length, IfSome, if◌then◌else◌};
+ghost use Rattle.std.specs.Prelude.{◌≡◌, ℕ, ◌+◌, ◌^◌, ◌<◌, IfSome, if◌then◌else◌};
 ghost use Rattle.least.specs.Fewest.{fewest};
 ghost use Rattle.planner.specs.Asking.{bytes_off, bytes_on};
 ghost use Rattle.planner.specs.Looking.{Fitting, LookedBy, PagesIn, Readable, touched};
@@ -8,7 +8,7 @@ ghost use Rattle.planner.specs.Survey.{UpTo, below, erased_from, kept, kept_from
 
 use crate::look::{both_pages, read_page, touches};
 use crate::overlay::Write;
-use crate::page::{blank, page_cost};
+use crate::page::{BLANK, page_cost};
 use least::cost::{Cost, ERASE, NOTHING, added, at_most};
 use part::part::Part;
 use std::ops::AddAssign;
@@ -60,7 +60,7 @@ fn page_costs<P: Part>(part: &mut P, write: Write<'_>, q: usize) -> Costs
     let (old, new) = both_pages(part, write, q);
     Costs {
         cost: page_cost(&old, &new),
-        presets: page_cost(&blank(), &new),
+        presets: page_cost(&BLANK, &new),
     }
 }
 
@@ -75,7 +75,7 @@ fn rest_cost<P: Part>(part: &mut P, write: Write<'_>, q: usize) -> Cost
         return NOTHING;
     }
     let page = read_page(part, q);
-    page_cost(&blank(), &page)
+    page_cost(&BLANK, &page)
 }
 
 // Pages as they stand, and once erased those that the write touches.

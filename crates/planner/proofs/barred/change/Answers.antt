@@ -1,9 +1,9 @@
-use Rattle.std.proofs.Common.{◌≡◌, ℕ, min, List, length, Some, None, sym, refl, ap, arith}
+use Rattle.std.proofs.Common.{◌≡◌, ℕ, min, List, length, Some, None, ap, arith}
 use Rattle.memory.specs.Page.{page}
 use Rattle.part.specs.Meaning.{Meaning}
 use Rattle.planner.specs.Looking.{Fitting, Readable, wanted}
 use Rattle.planner.proofs.Barrings.{first_of}
-use Rattle.planner.proofs.Lookings.{length-here, length-wanted, looked_none, page-low, page_off}
+use Rattle.planner.proofs.Lookings.{length-here, length-wanted}
 use Rattle.planner.proofs.barred.change.Goals as goal
 
 -- both pages are whole
@@ -12,46 +12,25 @@ long :
     → new ≡ page 64 q (wanted m a b) → min (length old) (length new) ≡ 64
 long m q R a b F old new e f = omega (arith, ap length e, ap length f, length-here m q R, length-wanted m q R a b F)
 
-pub touches-requires : goal.touches-requires
-touches-requires g c =
+pub returns-in_err-place-clause-value : goal.returns-in_err-place-clause-value
+returns-in_err-place-clause-value g c =
     let m = g.P.Part.meaning c.args.part.now in
-    page-low m c.args.q c.requires.1
-
-pub returns-then-not-touches : goal.returns-then-not-touches
-returns-then-not-touches g c =
-    let m = g.P.Part.meaning c.args.part.now in
+    let q = c.args.q in
     let a = c.args.write.address in
     let b = c.args.write.bytes.now in
-    let q = c.args.q in
-    record {
-      looked = looked_none g.P.Part _ c.args.part.now (g.met.P.Part.stays c.args.part.now);
-      value =
-          λ h.
-          first_of q m.image (wanted m a b) (page 64 q m.image) (page 64 q m.image) 64 None refl
-          (sym (page_off m q c.requires.1 a b c.requires.0 (sym c.if-not-touches.ensures))) refl (λ i l. refl);
-    }
-
-pub returns-in_err-place : goal.returns-in_err-place
-returns-in_err-place g c =
-    let m = g.P.Part.meaning c.args.part.now in
     let both = c.both_pages.ensures in
     rw c.from_residual.ensures
-    (record {
-      looked = both.looked;
-      value =
-          λ h.
-          first_of c.args.q m.image (wanted m c.args.write.address c.args.write.bytes.now) c.both_pages.result.0 c.both_pages.result.1 _ None
-          (both.old h) (both.new h) (long m c.args.q c.requires.1 c.args.write.address c.args.write.bytes.now c.requires.0 _ _ (both.old h) (both.new h)) c.in_err-place.ensures;
-    })
+    (λ h.
+    first_of q m.image (wanted m a b) c.both_pages.result.0 c.both_pages.result.1 _ None (both.old h) (both.new h)
+    (long m q c.requires.1 a b c.requires.0 _ _ (both.old h) (both.new h)) c.in_err-place.ensures)
 
-pub returns : goal.returns
-returns g c =
+pub returns-clause-value : goal.returns-clause-value
+returns-clause-value g c =
     let m = g.P.Part.meaning c.args.part.now in
+    let q = c.args.q in
+    let a = c.args.write.address in
+    let b = c.args.write.bytes.now in
     let both = c.both_pages.ensures in
-    record {
-      looked = both.looked;
-      value =
-          λ h.
-          first_of c.args.q m.image (wanted m c.args.write.address c.args.write.bytes.now) c.both_pages.result.0 c.both_pages.result.1 _ (Some c.in_ok-place.place)
-          (both.old h) (both.new h) (long m c.args.q c.requires.1 c.args.write.address c.args.write.bytes.now c.requires.0 _ _ (both.old h) (both.new h)) c.in_ok-place.ensures;
-    }
+    λ h.
+    first_of q m.image (wanted m a b) c.both_pages.result.0 c.both_pages.result.1 _ (Some c.in_ok-place.place) (both.old h) (both.new h)
+    (long m q c.requires.1 a b c.requires.0 _ _ (both.old h) (both.new h)) c.in_ok-place.ensures

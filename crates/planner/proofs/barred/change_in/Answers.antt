@@ -1,32 +1,14 @@
-use Rattle.std.proofs.Common.{◌+◌, ◌*◌, Some, None, subst, arith}
+use Rattle.std.proofs.Common.{◌+◌, ◌*◌, None, subst, arith}
 use Rattle.part.specs.Meaning.{Meaning}
 use Rattle.planner.specs.Changes.{FirstIn}
 use Rattle.planner.specs.Looking.{wanted}
-use Rattle.planner.proofs.Barrings.{first_more, first_later}
-use Rattle.planner.proofs.Lookings.{looked_none, looked_join}
+use Rattle.planner.proofs.Barrings.{first_more}
+use Rattle.planner.proofs.Lookings.{looked_join}
 use Rattle.planner.proofs.barred.change_in.Goals as goal
 
-pub loop-q-init : goal.loop-q-init
-loop-q-init g c = (
-  looked_none g.P.Part _ c.args.part.now (g.met.P.Part.stays c.args.part.now),
-  λ _ a l u. absurd (omega arith),
-)
-
-pub returns-in-Some : goal.returns-in-Some
-returns-in-Some g c =
-    let inv = c.loop-q.invariant in
-    let page = c.in-Some.ensures in
-    let m = g.P.Part.meaning c.args.part.now in
-    let a = c.args.write.address in
-    let b = c.args.write.bytes.now in
-    let q = c.loop-q.q in
-    record {
-      looked = looked_join g.P.Part g.met.P.Part.joins _ _ _ _ _ _ inv.0 page.looked (omega arith);
-      value =
-          λ h.
-          first_later (c.args.first * 64) (q * 64) (q * 64 + 64) ((c.args.first + c.args.count) * 64) m.image (wanted m a b) c.in-Some.place (omega arith) (omega arith) (inv.1 h)
-          (subst (λ (x : Meaning). FirstIn (q * 64) (q * 64 + 64) x.image (wanted x a b) (Some c.in-Some.place)) inv.0.same (page.value (inv.0.keeps h)));
-    }
+pub returns-in-Some-clause-looked : goal.returns-in-Some-clause-looked
+returns-in-Some-clause-looked g c =
+    looked_join g.P.Part g.met.P.Part.joins _ _ _ _ _ _ c.loop-q.invariant.0 c.in-Some.ensures.looked (omega arith)
 
 pub loop-q-preserved : goal.loop-q-preserved
 loop-q-preserved g c =

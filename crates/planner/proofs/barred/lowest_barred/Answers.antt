@@ -1,66 +1,47 @@
-use Rattle.std.proofs.Common.{◌≡◌, ℕ, ◌+◌, ◌*◌, ◌<◌, ◌≤◌, Bool, true, false, cond, Some, None, sym, subst, zero-mul, arith}
+use Rattle.std.proofs.Common.{◌≡◌, ℕ, ◌+◌, ◌*◌, ◌<◌, Bool, true, false, cond, Some, None, sym, subst, arith}
 use Rattle.memory.specs.Protection.{free}
 use Rattle.memory.proofs.Blocks.{below_end}
 use Rattle.part.specs.Meaning.{Meaning, protected_at}
 use Rattle.planner.specs.Changes.{FirstIn}
 use Rattle.planner.specs.Asking.{whole}
-use Rattle.planner.specs.Looking.{Fitting, LookedBy, wanted}
+use Rattle.planner.specs.Looking.{LookedBy, wanted}
 use Rattle.planner.proofs.Barrings.{barred_open, barred_same, barred_some}
 use Rattle.planner.proofs.Askings.{guarded_more, guarded_most, mul_more}
-use Rattle.planner.proofs.Lookings.{looked_none, looked_join, looked_most}
+use Rattle.planner.proofs.Lookings.{looked_join, looked_most}
 use Rattle.planner.proofs.Surveys.{free_not}
 use Rattle.planner.proofs.barred.lowest_barred.Goals as goal
 use Rattle.planner.proofs.barred.lowest_barred.Goals.{then-protects+in_default, else-protects}
-
-pub loop-k-init : goal.loop-k-init
-loop-k-init g c = (
-  looked_none g.P.Part _ c.args.part.now (g.met.P.Part.stays c.args.part.now),
-  λ _ a l b. omega (arith, zero-mul c.pages-pages.result),
-)
-
-pub change_in-requires : goal.change_in-requires
-change_in-requires g c =
-    let same = sym c.loop-k.invariant.0.same in
-    let m = g.P.Part.meaning c.args.part.now in
-    let k = c.loop-k.k in
-    let p = c.pages-pages.result in
-    let s = c.sectors-sectors.ensures in
-    record {
-      fitting = subst (λ (x : Meaning). Fitting x c.args.write.address c.args.write.bytes.now) same c.requires;
-      count_bound =
-          subst (λ (x : Meaning). k * p + p ≤ x.shape.sectors * x.shape.pages) same
-          (subst (λ x. k * x + x ≤ m.shape.sectors * m.shape.pages) (sym c.pages-pages.ensures) (below_end m.shape.pages k m.shape.sectors (omega arith)));
-    }
 
 -- what the part said of sector k is so of the part as it was
 said : (a b : Meaning) (k : ℕ) (v : Bool) → b ≡ a → protected_at b k ≡ v → protected_at a k ≡ v
 said a b k v e h = subst (λ (x : Meaning). protected_at x k ≡ v) e h
 
-pub returns-in-Some : goal.returns-in-Some
-returns-in-Some g c =
+pub returns-in-Some-clause-looked : goal.returns-in-Some-clause-looked
+returns-in-Some-clause-looked g c =
     let inv = c.loop-k.invariant in
-    let found = c.in-Some.ensures in
     let m = g.P.Part.meaning c.args.part.now in
-    let now = g.P.Part.meaning c.loop-k.part in
+    let k = c.loop-k.k in
+    let s = c.sectors-sectors.ensures in
+    let inside : k < m.shape.sectors = omega arith in
+    looked_join g.P.Part g.met.P.Part.joins _ _ _ _ _ _ inv.0 c.in-Some.ensures.looked
+    (guarded_more (free (protected_at m) m.shape.sectors) (64 * (k * m.shape.pages)) (64 * c.pages-pages.result) (whole m)
+    (free_not (protected_at m) m.shape.sectors k inside (said m (g.P.Part.meaning c.loop-k.part) k true inv.0.same (sym c.if-protects.ensures)))
+    (omega (arith, below_end m.shape.pages k m.shape.sectors inside, c.pages-pages.ensures)))
+
+pub returns-in-Some-clause-value : goal.returns-in-Some-clause-value
+returns-in-Some-clause-value g c =
+    let inv = c.loop-k.invariant in
+    let m = g.P.Part.meaning c.args.part.now in
     let a = c.args.write.address in
     let b = c.args.write.bytes.now in
     let k = c.loop-k.k in
     let p = c.pages-pages.result in
     let s = c.sectors-sectors.ensures in
-    let inside : k < m.shape.sectors = omega arith in
-    let prot = said m now k true inv.0.same (sym c.if-protects.ensures) in
-    record {
-      looked = looked_join g.P.Part g.met.P.Part.joins _ _ _ _ _ _ inv.0 found.looked
-          (guarded_more (free (protected_at m) m.shape.sectors) (64 * (k * m.shape.pages)) (64 * p) (whole m)
-          (free_not (protected_at m) m.shape.sectors k inside prot)
-          (omega (arith, below_end m.shape.pages k m.shape.sectors inside, c.pages-pages.ensures)));
-      value =
-          λ h.
-          barred_some m c.requires.sound (wanted m a b) k p c.pages-pages.ensures c.in-Some.place inside
-          prot
-          (subst (λ (x : Meaning). FirstIn (k * p * 64) ((k * p + p) * 64) x.image (wanted x a b) (Some c.in-Some.place)) inv.0.same (found.value (inv.0.keeps h)))
-          (inv.1 h);
-    }
+    λ h.
+    barred_some m c.requires.sound (wanted m a b) k p c.pages-pages.ensures c.in-Some.place (omega arith)
+    (said m (g.P.Part.meaning c.loop-k.part) k true inv.0.same (sym c.if-protects.ensures))
+    (subst (λ (x : Meaning). FirstIn (k * p * 64) ((k * p + p) * 64) x.image (wanted x a b) (Some c.in-Some.place)) inv.0.same (c.in-Some.ensures.value (inv.0.keeps h)))
+    (inv.1 h)
 
 pub loop-k-preserved : goal.loop-k-preserved
 loop-k-preserved g c =

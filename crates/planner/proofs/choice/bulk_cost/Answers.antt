@@ -1,34 +1,28 @@
 use Rattle.std.proofs.Common.{◌≡◌, ◌*◌, ◌≤◌, sym, ap, ◌∙◌, subst, ap₂, arith}
-use Rattle.std.proofs.lemmas.Bool.{cond-true, cond-false}
+use Rattle.std.proofs.lemmas.Bool.{cond-true}
 use Rattle.planner.specs.Asking.{bytes_off}
 use Rattle.planner.specs.Survey.{below, erased_from, on_from}
 use Rattle.planner.proofs.Askings.{on_and_off}
-use Rattle.planner.proofs.Lookings.{looked_most, looked_none}
+use Rattle.planner.proofs.Lookings.{looked_most}
 use Rattle.planner.proofs.Surveys.{bulk_flat, on_flat}
 use Rattle.planner.proofs.choice.bulk_cost.Goals as goal
 
-pub returns-then-not-is_free : goal.returns-then-not-is_free
-returns-then-not-is_free g c =
-    record {
-      looked = looked_none g.P.Part _ c.args.part.now (g.met.P.Part.stays c.args.part.now);
-      value = λ h _. sym (cond-false _ _ _ (sym c.if-not-is_free.ensures));
-    }
-
-pub returns : goal.returns
-returns g c =
+pub returns-clause-looked : goal.returns-clause-looked
+returns-clause-looked g c =
     let m = g.P.Part.meaning c.args.part.now in
     let a = c.args.write.address in
     let b = c.args.write.bytes.now in
-    let e : c.sectors.result * c.pages.result ≡ m.shape.sectors * m.shape.pages =
-    ap₂ (λ x y. x * y) c.sectors.ensures c.pages.ensures in
-    record {
-      looked =
-          looked_most g.P.Part _ _ _ _ c.erase_costs.ensures.looked
-          (subst (λ n. bytes_off a b 0 (c.sectors.result * c.pages.result) ≤ n) (sym (cond-true _ _ _ (sym c.if-not-is_free.ensures)))
-          (omega (arith, on_and_off a b 0 (c.sectors.result * c.pages.result), e)));
-      value =
-          λ h t.
-          c.erase_costs.ensures.value h (t ∙ (on_flat m a b ∙ ap (λ n. on_from m a b 0 n) (sym e)))
-          ∙ (ap (below c.args.limit) (ap (λ n. erased_from m a b 0 n) e ∙ bulk_flat m a b)
-          ∙ sym (cond-true _ _ _ (sym c.if-not-is_free.ensures)));
-    }
+    let n = c.sectors.result * c.pages.result in
+    let e : n ≡ m.shape.sectors * m.shape.pages = ap₂ (λ x y. x * y) c.sectors.ensures c.pages.ensures in
+    looked_most g.P.Part _ _ _ _ c.erase_costs.ensures.looked
+    (subst (λ x. bytes_off a b 0 n ≤ x) (sym (cond-true _ _ _ (sym c.if-not-is_free.ensures))) (omega (arith, on_and_off a b 0 n, e)))
+
+pub returns-clause-value : goal.returns-clause-value
+returns-clause-value g c =
+    let m = g.P.Part.meaning c.args.part.now in
+    let a = c.args.write.address in
+    let b = c.args.write.bytes.now in
+    let e : c.sectors.result * c.pages.result ≡ m.shape.sectors * m.shape.pages = ap₂ (λ x y. x * y) c.sectors.ensures c.pages.ensures in
+    λ h t.
+    c.erase_costs.ensures.value h (t ∙ (on_flat m a b ∙ ap (λ n. on_from m a b 0 n) (sym e)))
+    ∙ (ap (below c.args.limit) (ap (λ n. erased_from m a b 0 n) e ∙ bulk_flat m a b) ∙ sym (cond-true _ _ _ (sym c.if-not-is_free.ensures)))

@@ -4,7 +4,6 @@ use Rattle.part.specs.Meaning.{Meaning}
 use Rattle.least.specs.Cost.{lesser}
 use Rattle.least.specs.Fewest.{fewest}
 use Rattle.planner.specs.declared.chosen.Pages.TheVariants.{Kept, Erased}
-use Rattle.planner.specs.Looking.{Fitting}
 use Rattle.least.specs.Sectors.{sector_cost}
 use Rattle.planner.specs.Survey.{erased_from, erases, kept, kept_from, on_from, preset}
 use Rattle.planner.proofs.Askings.{on_and_off}
@@ -14,29 +13,6 @@ use Rattle.planner.proofs.choice.sector_cost.Goals as goal
 
 inside : (m : Meaning) (k p : ℕ) → p ≡ m.shape.pages → k < m.shape.sectors → k * p + p ≤ m.shape.sectors * m.shape.pages
 inside m k p e h = subst (λ x. k * x + x ≤ m.shape.sectors * m.shape.pages) (sym e) (below_end m.shape.pages k m.shape.sectors h)
-
-pub touched_costs-kept-requires : goal.touched_costs-kept-requires
-touched_costs-kept-requires g c =
-    record {
-      fitting = c.requires.0;
-      count_bound = inside (g.P.Part.meaning c.args.part.now) c.args.k c.pages-pages.result c.pages-pages.ensures c.requires.1;
-    }
-
-pub erase_costs-requires : goal.erase_costs-requires
-erase_costs-requires g c =
-    let touched = c.touched_costs-kept.ensures in
-    let same = sym touched.looked.same in
-    let k = c.args.k in
-    let p = c.pages-pages.result in
-    let low = c.requires.0.sound.low in
-    let e = c.pages-pages.ensures in
-    record {
-      fitting = subst (λ m. Fitting m c.args.write.address c.args.write.bytes.now) same c.requires.0;
-      count_bound =
-          subst (λ m. k * p + p ≤ m.shape.sectors * m.shape.pages) same
-          (inside (g.P.Part.meaning c.args.part.now) k p e c.requires.1);
-      presets_bound = (omega (arith, touched.bound), omega (arith, touched.bound));
-    }
 
 -- the choice, once both costs are known
 chosen :

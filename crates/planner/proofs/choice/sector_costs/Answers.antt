@@ -1,4 +1,4 @@
-use Rattle.std.proofs.Common.{◌≡◌, ℕ, ◌+◌, ◌<◌, List, length, get_or, set, sym, refl, ap, ◌∙◌, ap₂, ⊎_elim, arith, get_or-set_other, get_or-set_same}
+use Rattle.std.proofs.Common.{◌≡◌, ℕ, ◌+◌, ◌<◌, List, length, get_or, set, sym, ap, ◌∙◌, ap₂, ⊎_elim, arith, get_or-set_other, get_or-set_same}
 use Rattle.std.proofs.lemmas.Bool.{cases_eq}
 use Rattle.part.specs.Meaning.{Meaning}
 use Rattle.planner.specs.declared.chosen.Pages.{Pages}
@@ -7,7 +7,7 @@ use Rattle.least.specs.Fewest.{fewest}
 use Rattle.least.specs.Sectors.{over_sector, sector_cost}
 use Rattle.planner.specs.Survey.{kept, preset, preset_on, sector_pages}
 use Rattle.planner.proofs.Askings.{mul_more}
-use Rattle.planner.proofs.Lookings.{looked_none, looked_join}
+use Rattle.planner.proofs.Lookings.{looked_join}
 use Rattle.planner.proofs.Totals.{parts, sum_more}
 use Rattle.planner.proofs.choice.sector_costs.Goals as goal
 
@@ -18,16 +18,6 @@ marked :
 marked marks f k v h e before i l =
     ⊎_elim (λ t. ap (λ x. get_or (set marks k v) x Kept) t ∙ (get_or-set_same marks k v Kept h ∙ (e ∙ ap f (sym t))))
     (λ d. get_or-set_other marks k i v Kept d ∙ before i (omega arith)) (cases_eq i k)
-
-pub loop-k-init : goal.loop-k-init
-loop-k-init g c = (
-  looked_none g.P.Part _ c.args.part.now (g.met.P.Part.stays c.args.part.now),
-  (omega arith, omega arith),
-  (omega arith, omega arith),
-  λ _. refl,
-  λ _ i l. absurd (omega arith),
-  λ _. refl,
-)
 
 pub loop-k-preserved : goal.loop-k-preserved
 loop-k-preserved g c =

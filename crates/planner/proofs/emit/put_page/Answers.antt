@@ -1,4 +1,4 @@
-use Rattle.std.proofs.Common.{sym, ap, ◌∙◌}
+use Rattle.std.proofs.Common.{sym, refl, ap, ◌∙◌}
 use Rattle.planner.specs.Looking.{wanted}
 use Rattle.planner.specs.Lists.{page_list}
 use Rattle.planner.proofs.Emitted.{kept_are, presets_are}
@@ -36,6 +36,6 @@ returns-in-Erased-clause-sent g c =
     let b = c.args.write.bytes.now in
     sent_as _ _ _ _ _ _ (λ _. tt)
     (λ h.
-    presets_are c.args.q (wanted m a b) c.blank.result c.wanted_page-new.result c.blank.ensures (c.wanted_page-new.ensures.bytes h)
+    presets_are c.args.q (wanted m a b) _ c.wanted_page-new.result refl (c.wanted_page-new.ensures.bytes h)
     ∙ ap (λ p. page_list m a b p c.args.q) (sym c.in-Erased.is))
     c.put_page-in-Erased.ensures

@@ -3,18 +3,12 @@ use Rattle.planner.specs.Overlay.{overlaid}
 use Rattle.planner.proofs.Lookings.{page-wanted}
 use Rattle.planner.proofs.look.both_pages.Goals as goal
 
-pub returns : goal.returns
-returns g c =
+pub returns-clause-new : goal.returns-clause-new
+returns-clause-new g c =
     let m = g.P.Part.meaning c.args.part.now in
     let address = c.args.write.address in
     let bytes = c.args.write.bytes.now in
-    let read = c.read_page-old.ensures in
-    record {
-      looked = read.looked;
-      old = read.bytes;
-      new =
-          λ h.
-          c.overlay.ensures
-          ∙ (ap (λ x. overlaid address bytes (c.args.q * 64) x) (read.bytes h)
-          ∙ sym (page-wanted m c.args.q c.requires.1 address bytes c.requires.0));
-    }
+    λ h.
+    c.overlay.ensures
+    ∙ (ap (λ x. overlaid address bytes (c.args.q * 64) x) (c.read_page-old.ensures.bytes h)
+    ∙ sym (page-wanted m c.args.q c.requires.1 address bytes c.requires.0))

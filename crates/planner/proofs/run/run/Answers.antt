@@ -5,7 +5,7 @@ use Rattle.std.proofs.lemmas.Bool.Decides.{nat_tests}
 use Rattle.part.specs.declared.fault.PartFault.{PartFault}
 use Rattle.least.specs.declared.step.Step.{Step}
 use Rattle.planner.specs.declared.run_fault.RunFault.{RunFault}
-use Rattle.planner.specs.declared.run_fault.RunFault.TheVariants.{Limit, StillBusy, Refused, Abandoned}
+use Rattle.planner.specs.declared.run_fault.RunFault.TheVariants.{StillBusy, Refused, Abandoned}
 use Rattle.least.specs.Steps.{cycles_of}
 use Rattle.planner.specs.Running.{Sends, none, more, Ran, no_limit, still-busy, ran, refused, abandoned, sent_before, Did}
 use Rattle.planner.proofs.Doings.{ran_did}
@@ -20,11 +20,8 @@ done : (g : given.Over) (sent : List ℕ) (limit : ℕ) (steps : List Step) (a b
 done g sent limit steps a b r x =
     ran_did g.P.Part g.met.P.Part.stays g.met.P.Part.joins sent limit steps a b r x
 
-pub returns-then-not-is_limit : goal.returns-then-not-is_limit
-returns-then-not-is_limit g c =
-    let x : Ran g.P.Part c.args.data.now c.args.limit c.args.steps.now c.args.part.now c.args.part.now (Err (Limit c.args.limit)) =
-    no_limit (grind (arith, nat_tests)) refl in
-    record { ran = x; did = done g c.args.data.now c.args.limit c.args.steps.now c.args.part.now c.args.part.now (Err (Limit c.args.limit)) x }
+pub returns-then-not-is_limit-clause-ran : goal.returns-then-not-is_limit-clause-ran
+returns-then-not-is_limit-clause-ran g c = no_limit (grind (arith, nat_tests)) refl
 
 pub returns-then-not-wait : goal.returns-then-not-wait
 returns-then-not-wait g c =

@@ -5,27 +5,20 @@ use Rattle.least.specs.Cost.{sum_to}
 use Rattle.least.specs.Fewest.{fewest}
 use Rattle.planner.specs.Survey.{below, preset_off, off_from, on_from, erased_from}
 use Rattle.least.proofs.Laws.{fewest_lawful}
-use Rattle.least.proofs.Sums.{Le, plus_none}
+use Rattle.least.proofs.Sums.{Le}
 use Rattle.planner.proofs.Askings.{off_front, off_next, same_most}
-use Rattle.planner.proofs.Lookings.{looked_none, looked_join, looked_most}
+use Rattle.planner.proofs.Lookings.{looked_join, looked_most}
 use Rattle.planner.proofs.Surveys.{erased_is}
 use Rattle.planner.proofs.Totals.{parts, sum_next, sum-front}
 use Rattle.planner.proofs.survey.erase_costs.Goals as goal
 
-pub loop-q-init : goal.loop-q-init
-loop-q-init g c =
-    let none : c.args.first - c.args.first ≡ 0 = omega arith in (
-      looked_none g.P.Part _ c.args.part.now (g.met.P.Part.stays c.args.part.now),
-      omega arith,
-      omega arith,
-      λ _.
-          sym
-          (ap (λ n. fewest.plus c.plus-cost.result (off_from (g.P.Part.meaning c.args.part.now) c.args.write.address c.args.write.bytes.now c.args.first n)) none
-          ∙ plus_none (fewest_lawful 64) c.plus-cost.result),
-    )
+pub returns-then-at_most-clause-looked : goal.returns-then-at_most-clause-looked
+returns-then-at_most-clause-looked g c =
+    looked_most g.P.Part _ _ _ _ c.loop-q.invariant.0
+    (off_front c.args.write.address c.args.write.bytes.now c.args.first c.args.count (c.loop-q.q - c.args.first) (omega arith))
 
-pub returns-then-at_most : goal.returns-then-at_most
-returns-then-at_most g c =
+pub returns-then-at_most-clause-value : goal.returns-then-at_most-clause-value
+returns-then-at_most-clause-value g c =
     let inv = c.loop-q.invariant in
     let a = c.args.write.address in
     let b = c.args.write.bytes.now in
@@ -34,17 +27,12 @@ returns-then-at_most g c =
     let L = fewest_lawful 64 in
     let start : ℕ × ℕ = fewest.plus (1, 0) c.args.presets in
     let f : ℕ → ℕ × ℕ = λ i. preset_off m a b (c.args.first + i) in
-    record {
-      looked = looked_most g.P.Part _ _ _ _ inv.0 (off_front c.args.write.address c.args.write.bytes.now c.args.first c.args.count (c.loop-q.q - c.args.first) (omega arith));
-      bound = λ n u. tt;
-      value =
-          λ h e.
-          sym (cond-true _ _ _
-          (subst (λ (x : ℕ × ℕ). Le fewest c.args.limit x) (erased_is m a b c.args.first n c.args.presets e)
-          (L.leq_trans c.args.limit c.loop-q.cost (fewest.plus start (sum_to fewest n f)) (sym c.if-at_most.ensures)
-          (subst (λ (x : ℕ × ℕ). Le fewest x (fewest.plus start (sum_to fewest n f))) (sym (inv.3 h ∙ ap (λ x. fewest.plus x (sum_to fewest (c.loop-q.q - c.args.first) f)) c.plus-cost.ensures))
-          (L.plus_mono start start (sum_to fewest (c.loop-q.q - c.args.first) f) (sum_to fewest n f) (L.leq_refl start) (sum-front L f n (c.loop-q.q - c.args.first) (omega arith)))))));
-    }
+    λ h e.
+    sym (cond-true _ _ _
+    (subst (λ (x : ℕ × ℕ). Le fewest c.args.limit x) (erased_is m a b c.args.first n c.args.presets e)
+    (L.leq_trans c.args.limit c.loop-q.cost (fewest.plus start (sum_to fewest n f)) (sym c.if-at_most.ensures)
+    (subst (λ (x : ℕ × ℕ). Le fewest x (fewest.plus start (sum_to fewest n f))) (sym (inv.3 h ∙ ap (λ x. fewest.plus x (sum_to fewest (c.loop-q.q - c.args.first) f)) c.plus-cost.ensures))
+    (L.plus_mono start start (sum_to fewest (c.loop-q.q - c.args.first) f) (sum_to fewest n f) (L.leq_refl start) (sum-front L f n (c.loop-q.q - c.args.first) (omega arith)))))))
 
 pub loop-q-preserved : goal.loop-q-preserved
 loop-q-preserved g c =
@@ -75,32 +63,27 @@ ended :
 ended m a b first count j presets cost d t e =
     t ∙ (ap (λ n. fewest.plus (fewest.plus (1, 0) presets) (off_from m a b first n)) d ∙ erased_is m a b first count presets e)
 
-pub returns-then-at_most-2 : goal.returns-then-at_most-2
-returns-then-at_most-2 g c =
-    let inv = c.loop-q.invariant in
+pub returns-then-at_most-2-clause-value : goal.returns-then-at_most-2-clause-value
+returns-then-at_most-2-clause-value g c =
     let m = g.P.Part.meaning c.args.part.now in
-    record {
-      looked = looked_most g.P.Part _ _ _ _ inv.0 (off_front c.args.write.address c.args.write.bytes.now c.args.first c.args.count (c.loop-q.q - c.args.first) (omega arith));
-      bound = λ n u. tt;
-      value =
-          λ h e.
-          sym (cond-true _ _ _
-          (subst (λ (x : ℕ × ℕ). Le fewest c.args.limit x)
-          (ended m c.args.write.address c.args.write.bytes.now c.args.first c.args.count (c.loop-q.q - c.args.first) c.args.presets c.loop-q.cost (omega arith) (inv.3 h ∙ ap (λ x. fewest.plus x (off_from m c.args.write.address c.args.write.bytes.now c.args.first (c.loop-q.q - c.args.first))) c.plus-cost.ensures) e)
-          (sym c.if-at_most-2.ensures)));
-    }
+    let a = c.args.write.address in
+    let b = c.args.write.bytes.now in
+    let first = c.args.first in
+    let j = c.loop-q.q - first in
+    λ h e.
+    sym (cond-true _ _ _
+    (subst (λ (x : ℕ × ℕ). Le fewest c.args.limit x)
+    (ended m a b first c.args.count j c.args.presets c.loop-q.cost (omega arith) (c.loop-q.invariant.3 h ∙ ap (λ x. fewest.plus x (off_from m a b first j)) c.plus-cost.ensures) e)
+    (sym c.if-at_most-2.ensures)))
 
-pub returns-else-at_most-2 : goal.returns-else-at_most-2
-returns-else-at_most-2 g c =
-    let inv = c.loop-q.invariant in
-    let start = parts _ _ _ c.plus-cost.ensures in
+pub returns-else-at_most-2-clause-value : goal.returns-else-at_most-2-clause-value
+returns-else-at_most-2-clause-value g c =
     let m = g.P.Part.meaning c.args.part.now in
-    record {
-      looked = looked_most g.P.Part _ _ _ _ inv.0 (off_front c.args.write.address c.args.write.bytes.now c.args.first c.args.count (c.loop-q.q - c.args.first) (omega arith));
-      bound = λ n u. (omega (arith, inv.1, start.0, u), omega (arith, inv.2, start.1, u));
-      value =
-          λ h e.
-          sym (cond-false _ _ _ (sym c.if-at_most-2.ensures))
-          ∙ ap (below c.args.limit)
-          (ended m c.args.write.address c.args.write.bytes.now c.args.first c.args.count (c.loop-q.q - c.args.first) c.args.presets c.loop-q.cost (omega arith) (inv.3 h ∙ ap (λ x. fewest.plus x (off_from m c.args.write.address c.args.write.bytes.now c.args.first (c.loop-q.q - c.args.first))) c.plus-cost.ensures) e);
-    }
+    let a = c.args.write.address in
+    let b = c.args.write.bytes.now in
+    let first = c.args.first in
+    let j = c.loop-q.q - first in
+    λ h e.
+    sym (cond-false _ _ _ (sym c.if-at_most-2.ensures))
+    ∙ ap (below c.args.limit)
+    (ended m a b first c.args.count j c.args.presets c.loop-q.cost (omega arith) (c.loop-q.invariant.3 h ∙ ap (λ x. fewest.plus x (off_from m a b first j)) c.plus-cost.ensures) e)

@@ -1,23 +1,10 @@
-use Rattle.std.proofs.Common.{◌≡◌, ◌-◌, sym, ap, ◌∙◌, ap₂, arith}
+use Rattle.std.proofs.Common.{sym, ap, ◌∙◌, ap₂, arith}
 use Rattle.least.specs.Fewest.{fewest}
-use Rattle.planner.specs.Survey.{kept, kept_from, on_from, preset_on}
+use Rattle.planner.specs.Survey.{kept, preset_on}
 use Rattle.planner.proofs.Askings.{on_next, same_most}
-use Rattle.planner.proofs.Lookings.{looked_none, looked_join}
+use Rattle.planner.proofs.Lookings.{looked_join}
 use Rattle.planner.proofs.Totals.{parts, sum_next}
 use Rattle.planner.proofs.survey.touched_costs.Goals as goal
-
-pub loop-q-init : goal.loop-q-init
-loop-q-init g c =
-    let none : c.args.first - c.args.first ≡ 0 = omega arith in
-    let m = g.P.Part.meaning c.args.part.now in
-    let a = c.args.write.address in
-    let b = c.args.write.bytes.now in (
-      looked_none g.P.Part _ c.args.part.now (g.met.P.Part.stays c.args.part.now),
-      (omega arith, omega arith),
-      (omega arith, omega arith),
-      λ _. sym (ap (kept_from m a b c.args.first) none),
-      λ _. sym (ap (on_from m a b c.args.first) none),
-    )
 
 pub loop-q-preserved : goal.loop-q-preserved
 loop-q-preserved g c =
