@@ -1,4 +1,5 @@
-// Writes to try on a memory.
+// Writes to try on a memory, and chips of the bench to try them on.
 #![tactic(auto)]
 
+pub mod chip;
 pub mod trial;
