@@ -3,10 +3,10 @@
 use memory::model::PAGE_BYTES;
 use std::alloc::{AllocError, Global};
 use trials::picker::Picker;
-use trials::trial::{OPEN, Trial, fill};
+use trials::trial::{Trial, fill_range};
 
 // One value over so many bytes from an address on.
-#[derive(Clone, Copy)]
+#[derive(Clone, Copy, PartialEq, Eq, Debug)]
 pub(crate) struct Stretch {
     pub(crate) address: usize,
     pub(crate) length: usize,
@@ -15,7 +15,7 @@ pub(crate) struct Stretch {
 
 impl Stretch {
     pub(crate) fn fill(self, bytes: &mut [u8]) {
-        fill(bytes, self.address, self.length, self.value);
+        fill_range(bytes, self.address, self.length, self.value);
     }
 }
 
@@ -58,15 +58,19 @@ fn pick_stretch(picker: &mut Picker, size: usize) -> Stretch {
 pub(crate) fn make(heap: Global, size: usize, number: usize) -> Result<Trial, AllocError> {
     let mut picker = Picker::new(number);
     let covered = pick_stretch(&mut picker, size);
-    let mut trial = Trial::blank(heap, size, OPEN, covered.address, covered.length)?;
-    covered.fill(&mut trial.image);
+    let mut image = vec![in heap; 0xFF; size]?;
+    covered.fill(&mut image);
     for _ in 0..picker.pick(4) {
-        fill(&mut trial.image, picker.pick(size), 1, 0);
+        fill_range(&mut image, picker.pick(size), 1, 0);
     }
     if picker.pick(4) > 0 {
-        fill(&mut trial.image, size.saturating_sub(1), 1, 0);
+        fill_range(&mut image, size.saturating_sub(1), 1, 0);
     }
-    trial.bytes.fill(pick_value(&mut picker));
-    trial.status = pick_status(&mut picker);
-    Ok(trial)
+    let bytes = vec![in heap; pick_value(&mut picker); covered.length]?;
+    Ok(Trial {
+        status: pick_status(&mut picker),
+        image,
+        address: covered.address,
+        bytes,
+    })
 }

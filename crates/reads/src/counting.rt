@@ -66,7 +66,7 @@ impl<P: Part> Part for Counting<P> {
 }
 
 // What a plan costs, if there is one, and how many bytes were asked for it.
-#[derive(Clone, Copy)]
+#[derive(Clone, Copy, PartialEq, Eq, Debug)]
 pub(crate) struct Asked {
     pub(crate) cost: Option<Cost>,
     pub(crate) bytes: usize,

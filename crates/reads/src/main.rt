@@ -5,7 +5,7 @@ mod adverse;
 mod counting;
 
 use adverse::{Stretch, make};
-use anyhow::{Context, anyhow};
+use anyhow::Context;
 use counting::{Asked, Counting, plan_counted};
 use least::step::Step;
 use memory::geometry::{Geometry, MOST_PAGES, MOST_SECTORS};
@@ -31,15 +31,15 @@ fn ask(heap: Global, geometry: Geometry, trial: Trial) -> anyhow::Result<Asked> 
     } = trial;
     let mut steps = vec![in heap; Step::UNUSED; image.len() / PAGE_BYTES + 1]?;
     let mut data = vec![in heap; 0; image.len()]?;
-    let inner = PlainImage::new(geometry.sectors, geometry.pages, status, image).map_err(
-        |_| anyhow!("the plain image cannot be made"),
-    )?;
+    let inner = PlainImage::new(geometry.sectors, geometry.pages, status, image)
+        .ok()
+        .context("the plain image cannot be made")?;
     let mut part = Counting { inner, asked: 0 };
     Ok(plan_counted(&mut part, address, &bytes, &mut steps, &mut data))
 }
 
 // What a 128Mb memory holds: one value, but for a stretch that may hold another.
-#[derive(Clone, Copy)]
+#[derive(Clone, Copy, PartialEq, Eq, Debug)]
 struct Held {
     value: u8,
     but: Option<Stretch>,

@@ -1,2 +1,4 @@
+pub mod Faults
+pub mod Limits
 pub mod Spelling
 pub mod Showing

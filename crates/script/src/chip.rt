@@ -3,7 +3,7 @@ ghost use Rattle.std.specs.Prelude.{◌≡◌, false, is_some, vec_len};
 ghost use Rattle.port.specs.Bench.{unmade};
 
 // It is known that the chip can be made of it.
-#[derive(Drop)]
+#[derive(PartialEq, Eq, Debug, Drop)]
 pub struct Chip {
     pub capacity: u8,
     pub status: u8,

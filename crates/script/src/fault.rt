@@ -1,16 +1,20 @@
 // What is wrong with a script.
 ghost use Rattle.std.specs.Prelude.{◌≡◌};
-ghost use Rattle.script.specs.declared.fault.Fault.TheVariants.{Making, NoMemory};
+ghost use Rattle.script.specs.Faults.{unmade};
+ghost use Rattle.script.specs.declared.fault.Fault.TheVariants.{NoMemory};
 
+use crate::bytes::MOST;
 use crate::command::Command;
-use memory::image::Unmade;
+use crate::read::MOST_TEXT;
+use crate::reading::{MOST_ALL, MOST_STEPS};
 use port::fault::Making;
 use std::alloc::{AllocError, AllocFailed};
 use std::fmt;
 use thiserror::Error;
+use trials::chip::ChipFault;
 
 // Why the chip of a script cannot be made, in words.
-#[derive(Clone, Copy)]
+#[derive(Clone, Copy, PartialEq, Eq, Debug)]
 struct Reason(Making);
 
 impl fmt::Display for Reason {
@@ -26,7 +30,7 @@ impl fmt::Display for Reason {
 
 #[derive(Clone, Copy, PartialEq, Eq, Debug, Error)]
 pub enum Fault {
-    #[error("the script is longer than 1048576 bytes")]
+    #[error("the script is longer than {} bytes", MOST_TEXT)]
     Long,
     #[error("the script is not UTF-8 text")]
     Text,
@@ -56,13 +60,13 @@ pub enum Fault {
     #[error("the bytes end past the end of the chip")]
     Outside,
     // more bytes than the largest chip has
-    #[error("more than 16777216 bytes in one command")]
+    #[error("more than {} bytes in one command", MOST)]
     Bytes,
     // more bytes in the whole script than it may have
-    #[error("more than 268435456 bytes in the script")]
+    #[error("more than {} bytes in the script", MOST_ALL)]
     AllBytes,
     // room for more than the largest chip needs
-    #[error("room is for at most 1048576 steps and 16777216 data bytes")]
+    #[error("room is for at most {} steps and {} data bytes", MOST_STEPS, MOST)]
     Room,
     #[error("no memory is left")]
     NoMemory,
@@ -84,17 +88,22 @@ impl<T: Drop> From<AllocFailed<T>> for Fault {
     }
 }
 
-impl From<Unmade<Making>> for Fault {
-    ghost from_gives = { λ unmade fault. fault ≡ Making unmade.fault };
+impl From<ChipFault> for Fault {
+    ghost from_gives = { λ old new. new ≡ unmade old };
 
-    fn from(unmade: Unmade<Making>) -> Fault {
-        Fault::Making(unmade.fault)
+    fn from(fault: ChipFault) -> Fault {
+        match fault {
+            ChipFault::Making(making) => Fault::Making(making),
+            ChipFault::NoMemory => Fault::NoMemory,
+        }
     }
 }
 
 impl Fault {
     // The fault, on a line of its script.
-    pub(crate) fn on(self, line: usize) -> ScriptFault {
+    pub(crate) fn on(self, line: usize) -> ScriptFault
+        ensures { result ≡ record { line = line; fault = self } }
+    {
         ScriptFault { line, fault: self }
     }
 }

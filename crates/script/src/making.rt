@@ -7,36 +7,22 @@ ghost use Rattle.port.specs.Bench.{chip_of, fresh};
 
 use crate::chip::Chip;
 use crate::fault::Fault;
-use memory::model::Model;
+use part::size::is_inside;
 use port::bench::BenchChip;
-use port::fault::Making;
 use std::alloc::Global;
+use trials::chip;
 
 // A chip that holds FFh everywhere. It is made once here, so that what is wrong with it is told on its line.
 pub(crate) fn blank_chip(heap: Global, capacity: u8, status: u8, busy: usize) -> Result<Chip, Fault>
     ensures { IfOk result (λ c. (c.capacity ≡ capacity) × (c.status ≡ status) × (c.busy ≡ busy) × (c.image.items ≡ replicate (size (shape_for capacity)) 255)) }
 {
-    let model = Model::find(capacity).ok_or(Fault::Making(Making::Geometry))?;
-    let blank = vec![in heap; 0xFF; model.geometry.size()]?;
-    let made = BenchChip::new(capacity, blank, status, busy)?;
+    let made = chip::blank_chip(heap, capacity, status, busy)?;
     Ok(Chip {
         capacity,
         status,
         busy,
         image: made.into_image(),
     })
-}
-
-// Lays bytes over an image, where they lie inside it.
-fn lay(image: &mut [u8], address: usize, bytes: &[u8]) -> Result<(), Fault>
-    ensures inside { is_ok result ≡ nat_le (address + length bytes.now) (length image.old) }
-    ensures laid { image.new ≡ (if is_ok result then put address bytes.now image.old else image.old) }
-{
-    if bytes.len() > image.len() || address > image.len() - bytes.len() {
-        return Err(Fault::Outside);
-    }
-    image[address..address + bytes.len()].copy_from_slice(bytes);
-    Ok(())
 }
 
 impl Chip {
@@ -46,7 +32,11 @@ impl Chip {
         ensures laid { self.new.image.items ≡ (if is_ok result then put address bytes.now self.old.image.items else self.old.image.items) }
         ensures kept { (self.new.capacity ≡ self.old.capacity) × (self.new.status ≡ self.old.status) × (self.new.busy ≡ self.old.busy) }
     {
-        lay(&mut self.image, address, bytes)
+        if !is_inside(self.image.len(), address, bytes.len()) {
+            return Err(Fault::Outside);
+        }
+        self.image[address..address + bytes.len()].copy_from_slice(bytes);
+        Ok(())
     }
 
     // The bench chip.

@@ -1,4 +1,7 @@
 // A script read from text.
+ghost use Rattle.std.specs.Prelude.{◌≡◌, ◌+◌, ◌<◌, ◌≤◌, length, IfErr, IsErrAnd, OnOk, IsUtf8};
+ghost use Rattle.script.specs.declared.fault.Fault.TheVariants.{Long};
+
 use crate::fault::{Fault, ScriptFault};
 use crate::reading::Reading;
 use crate::script::Script;
@@ -9,7 +12,9 @@ use std::str::from_utf8;
 pub const MOST_TEXT: usize = 1048576;
 
 // The line that the byte at `at` is on, from 1.
-fn line_at(text: &[u8], at: usize) -> usize {
+fn line_at(text: &[u8], at: usize) -> usize
+    ensures { (0 < result) × (result ≤ 1 + length text.now) }
+{
     1 + text.iter().take(at).filter(|b| **b == b'\n').count()
 }
 
@@ -20,7 +25,9 @@ fn take_line(heap: Global, reading: &mut Reading, line: &str) -> Result<(), Faul
     reading.take(&words)
 }
 
-fn read_lines(heap: Global, text: &str) -> Result<Script, ScriptFault> {
+fn read_lines(heap: Global, text: &str) -> Result<Script, ScriptFault>
+    ensures { IfErr result (λ e. 0 < e.line) }
+{
     let mut reading = Reading::new(heap);
     for (number, line) in (1..).zip(text.lines()) {
         take_line(heap, &mut reading, line).map_err(|fault| fault.on(number))?;
@@ -30,7 +37,11 @@ fn read_lines(heap: Global, text: &str) -> Result<Script, ScriptFault> {
 }
 
 // The script, or the first line that is faulty. A script without a chip is faulty on its last line.
-pub fn read_script(heap: Global, text: &[u8]) -> Result<Script, ScriptFault> {
+pub fn read_script(heap: Global, text: &[u8]) -> Result<Script, ScriptFault>
+    ensures long { 1048576 < length text.now → IsErrAnd result (λ e. e.fault ≡ Long) }
+    ensures text { OnOk result (IsUtf8 text.now) }
+    ensures line { IfErr result (λ e. 0 < e.line) }
+{
     if text.len() > MOST_TEXT {
         return Err(Fault::Long.on(line_at(text, MOST_TEXT)));
     }

@@ -1,4 +1,7 @@
 // A script while it is read, and what each command does to it.
+ghost use Rattle.std.specs.Prelude.{◌≡◌, ◌+◌, ◌≤◌, true, sum_by};
+ghost use Rattle.script.specs.Limits.{bytes_of, is_short};
+
 use crate::bytes::{MOST, bytes};
 use crate::command::Command;
 use crate::fault::Fault;
@@ -16,30 +19,36 @@ const ROOM: Room = Room {
 };
 
 // The most steps that there can be room for.
-const MOST_STEPS: usize = 1048576;
+pub(crate) const MOST_STEPS: usize = 1048576;
 
 // The bytes of all reads and writes together.
-const MOST_ALL: usize = 268435456;
+pub(crate) const MOST_ALL: usize = 268435456;
+
+// How many bytes a call has.
+fn bytes_of(call: &Call) -> usize
+    ensures { result ≡ bytes_of call.now }
+{
+    match call {
+        Call::Close { sector: _ } | Call::Open { sector: _ } => 0,
+        Call::Read { address: _, into } => into.len(),
+        Call::Write {
+            address: _,
+            bytes,
+            limit: _,
+        } => bytes.len(),
+    }
+}
 
 #[derive(Drop)]
 pub(crate) struct Reading {
     heap: Global,
-    // what is read, from the chip on
-    script: Option<Script>,
-    // the poll limit of the writes that follow
-    limit: usize,
-    // how many bytes the rest of the calls may have
-    left: usize,
+    // none until there is a chip
+    begun: Option<Begun>,
 }
 
 impl Reading {
     pub(crate) fn new(heap: Global) -> Reading {
-        Reading {
-            heap,
-            script: None,
-            limit: MOST_POLLS,
-            left: MOST_ALL,
-        }
+        Reading { heap, begun: None }
     }
 
     // What the words of one line say. A line without words says nothing.
@@ -48,141 +57,133 @@ impl Reading {
             return Ok(());
         };
         let command = word.parse()?;
-        if self.script.is_none() && command != Command::Chip {
-            return Err(Fault::NoChip);
+        match &mut self.begun {
+            Some(begun) => begun.take(command, arguments)?,
+            None => self.begun = Some(Begun::new(self.heap, command, arguments)?),
         }
-        match command {
-            Command::Chip => self.set_chip(arguments),
-            Command::Image => self.lay_image(arguments),
-            Command::Room => self.set_room(arguments),
-            Command::Limit => self.set_limit(arguments),
-            Command::Close => self.close(arguments),
-            Command::Open => self.open(arguments),
-            Command::Read => self.read(arguments),
-            Command::Write => self.write(arguments),
-        }
+        Ok(())
     }
 
     // The whole script, once every line is read.
     pub(crate) fn finish(self) -> Result<Script, Fault> {
-        self.script.ok_or(Fault::NoChip)
+        self.begun.map(|begun| begun.script).ok_or(Fault::NoChip)
     }
+}
 
-    // Each command takes its words apart by a pattern that reads as its usage does: a helper by their number would be no plainer.
-    fn set_chip(&mut self, arguments: &[&str]) -> Result<(), Fault> {
-        let [capacity, status, busy] = arguments else {
-            return Err(Fault::Words(Command::Chip));
-        };
-        if self.script.is_some() {
-            return Err(Fault::ChipAgain);
+// A script from its chip on.
+#[derive(Drop)]
+struct Begun {
+    heap: Global,
+    script: Script,
+    // the poll limit of the writes that follow
+    limit: usize,
+    // how many bytes the rest of the calls may have
+    left: usize,
+    ghost all: { sum_by bytes_of script.calls.items + left ≤ 268435456 },
+}
+
+impl Begun {
+    // What the first command says, which has to be `chip`.
+    fn new(heap: Global, command: Command, arguments: &[&str]) -> Result<Begun, Fault> {
+        match (command, arguments) {
+            (Command::Chip, [capacity, status, busy]) => {
+                let chip = blank_chip(heap, byte(capacity)?, byte(status)?, decimal(busy)?)?;
+                Ok(Begun {
+                    heap,
+                    script: Script {
+                        chip,
+                        room: ROOM,
+                        calls: Vec::new(heap),
+                    },
+                    limit: MOST_POLLS,
+                    left: MOST_ALL,
+                })
+            }
+            (Command::Chip, _) => Err(Fault::Words(command)),
+            _ => Err(Fault::NoChip),
         }
-        let chip = blank_chip(self.heap, byte(capacity)?, byte(status)?, decimal(busy)?)?;
-        self.script = Some(Script {
-            chip,
-            room: ROOM,
-            calls: Vec::new(self.heap),
-        });
-        Ok(())
     }
 
-    // The script before its first call.
-    fn before_calls(&mut self) -> Result<&mut Script, Fault> {
-        let script = self.script.as_mut().ok_or(Fault::NoChip)?;
-        if script.calls.is_empty() {
-            Ok(script)
+    // What another command says.
+    fn take(&mut self, command: Command, arguments: &[&str]) -> Result<(), Fault> {
+        match (command, arguments) {
+            (Command::Chip, [_, _, _]) => Err(Fault::ChipAgain),
+            (Command::Image, [address, bytes @ ..]) => self.lay_image(address, bytes),
+            (Command::Room, [steps, bytes]) => self.set_room(steps, bytes),
+            (Command::Limit, [polls]) => {
+                self.limit = decimal(polls)?;
+                Ok(())
+            }
+            (Command::Close, [sector]) => self.call(Call::Close {
+                sector: decimal(sector)?,
+            }),
+            (Command::Open, [sector]) => self.call(Call::Open {
+                sector: decimal(sector)?,
+            }),
+            (Command::Read, [address, length]) => self.read(address, length),
+            (Command::Write, [address, bytes @ ..]) => self.write(address, bytes),
+            _ => Err(Fault::Words(command)),
+        }
+    }
+
+    // Refuses a command that stands after the first call.
+    fn check_no_call(&self) -> Result<(), Fault> {
+        if self.script.calls.is_empty() {
+            Ok(())
         } else {
             Err(Fault::Late)
         }
     }
 
-    fn lay_image(&mut self, arguments: &[&str]) -> Result<(), Fault> {
-        let [address, words @ ..] = arguments else {
-            return Err(Fault::Words(Command::Image));
-        };
-        let heap = self.heap;
-        let script = self.before_calls()?;
-        script.chip.lay(decimal(address)?, &bytes(heap, words)?)
+    fn lay_image(&mut self, address: &str, words: &[&str]) -> Result<(), Fault> {
+        self.check_no_call()?;
+        let address = decimal(address)?;
+        let bytes = bytes(self.heap, words)?;
+        self.script.chip.lay(address, &bytes)
     }
 
-    fn set_room(&mut self, arguments: &[&str]) -> Result<(), Fault> {
-        let [steps, bytes] = arguments else {
-            return Err(Fault::Words(Command::Room));
-        };
-        let script = self.before_calls()?;
-        let room = Room {
-            steps: decimal(steps)?,
-            bytes: decimal(bytes)?,
-        };
-        if room.steps > MOST_STEPS || room.bytes > MOST {
+    fn set_room(&mut self, steps: &str, bytes: &str) -> Result<(), Fault> {
+        self.check_no_call()?;
+        let steps = decimal(steps)?;
+        let bytes = decimal(bytes)?;
+        if steps > MOST_STEPS || bytes > MOST {
             return Err(Fault::Room);
         }
-        script.room = room;
+        self.script.room = Room { steps, bytes };
         Ok(())
     }
 
-    fn set_limit(&mut self, arguments: &[&str]) -> Result<(), Fault> {
-        let [limit] = arguments else {
-            return Err(Fault::Words(Command::Limit));
-        };
-        self.limit = decimal(limit)?;
-        Ok(())
-    }
-
-    fn close(&mut self, arguments: &[&str]) -> Result<(), Fault> {
-        let [sector] = arguments else {
-            return Err(Fault::Words(Command::Close));
-        };
-        let sector = decimal(sector)?;
-        self.call(Call::Close { sector }, 0)
-    }
-
-    fn open(&mut self, arguments: &[&str]) -> Result<(), Fault> {
-        let [sector] = arguments else {
-            return Err(Fault::Words(Command::Open));
-        };
-        let sector = decimal(sector)?;
-        self.call(Call::Open { sector }, 0)
-    }
-
-    fn read(&mut self, arguments: &[&str]) -> Result<(), Fault> {
-        let [address, length] = arguments else {
-            return Err(Fault::Words(Command::Read));
-        };
+    fn read(&mut self, address: &str, length: &str) -> Result<(), Fault> {
         let address = decimal(address)?;
         let length = decimal(length)?;
         if length > MOST {
             return Err(Fault::Bytes);
         }
         let into = vec![in self.heap; 0; length]?;
-        self.call(Call::Read { address, into }, length)
+        self.call(Call::Read { address, into })
     }
 
-    fn write(&mut self, arguments: &[&str]) -> Result<(), Fault> {
-        let [address, words @ ..] = arguments else {
-            return Err(Fault::Words(Command::Write));
-        };
+    fn write(&mut self, address: &str, words: &[&str]) -> Result<(), Fault> {
         let address = decimal(address)?;
         let bytes = bytes(self.heap, words)?;
-        let length = bytes.len();
         let limit = self.limit;
-        self.call(
-            Call::Write {
-                address,
-                bytes,
-                limit,
-            },
-            length,
-        )
+        self.call(Call::Write {
+            address,
+            bytes,
+            limit,
+        })
     }
 
-    // One more call, with so many bytes.
-    fn call(&mut self, call: Call, length: usize) -> Result<(), Fault> {
-        let script = self.script.as_mut().ok_or(Fault::NoChip)?;
+    // One more call, if the script may have its bytes.
+    fn call(&mut self, call: Call) -> Result<(), Fault>
+        requires { is_short call ≡ true }
+    {
+        let length = bytes_of(&call);
         if length > self.left {
             return Err(Fault::AllBytes);
         }
         self.left -= length;
-        script.calls.push(call)?;
+        self.script.calls.push(call)?;
         Ok(())
     }
 }

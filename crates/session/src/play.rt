@@ -14,24 +14,18 @@ pub(crate) fn play(heap: Global, script: Script) -> anyhow::Result<String> {
     let mut steps = vec![in heap; Step::UNUSED; script.room.steps]?;
     let mut data = vec![in heap; 0; script.room.bytes]?;
     let played = perform_attached(heap, chip, MOST_POLLS, script.calls, &mut steps, &mut data);
-    // a match in place of `?`: it proves that attaching does not fail
-    let record = match played {
-        Ok(Performed { record, fence: _ }) => record,
-        Err(
-            Unplayed::NoMemory {
-                driver: _,
-                calls: _,
-            },
-        ) => return Err(anyhow!("no memory is left")),
+    let Performed { record, fence: _ } = played.map_err(|unplayed| match unplayed {
+        Unplayed::NoMemory {
+            driver: _,
+            calls: _,
+        } => anyhow!("no memory is left"),
         // a chip just made is idle
-        Err(
-            Unplayed::Unattached {
-                fault: _,
-                port: _,
-                calls: _,
-            },
-        ) => unreachable(),
-    };
+        Unplayed::Unattached {
+            fault: _,
+            port: _,
+            calls: _,
+        } => unreachable!(),
+    })?;
     let mut out = String::new(heap);
     for entry in record.iter() {
         let line = Shown(entry);

@@ -2,7 +2,7 @@
 // a plain image: a measure of speed.
 #![tactic(auto)]
 
-use anyhow::anyhow;
+use anyhow::Context;
 use driver::attach::attach;
 use least::step::Step;
 use memory::bytes::is_blank;
@@ -12,7 +12,9 @@ use part::part::Part;
 use part::plain::PlainImage;
 use planner::plan::plan;
 use port::bench::BenchChip;
+use port::build::build;
 use port::fault::PortFault;
+use port::instruction::Operation;
 use port::port::Port;
 
 // The bench chip of this program: each program chooses its own.
@@ -22,14 +24,11 @@ const BYTES: usize = MOST_SECTORS * MOST_PAGES * PAGE_BYTES;
 
 const STATUS: u8 = 0x80;
 
-const WRITE_ENABLE: [u8; 1] = [0x06];
+// A code and an address.
+const HEAD: usize = 4;
 
-const BULK_ERASE: [u8; 1] = [0xC7];
-
-const READ: u8 = 0x03;
-
-// What fits a frame of 320 bytes beside a code and an address.
-const CHUNK: usize = 316;
+// What fits a frame of 320 bytes beside them.
+const CHUNK: usize = 320 - HEAD;
 
 const FRAMES: usize = BYTES / CHUNK + 1;
 
@@ -37,17 +36,23 @@ fn count_blank(bytes: &[u8]) -> usize {
     bytes.iter().filter(|b| **b == 0xFF).count()
 }
 
+// Sends the frame of an operation that has no data.
+fn send(
+    chip: &mut BenchChip,
+    operation: Operation,
+    address: usize,
+    back: &mut [u8],
+) -> Result<(), PortFault> {
+    let mut frame = [0u8; HEAD];
+    let n = build(operation, address, &[], &mut frame)?;
+    chip.exchange(&frame[..n], back)
+}
+
 // How many bytes of one frame's worth are FFh.
 fn read_chunk(chip: &mut BenchChip, start: usize) -> Result<usize, PortFault> {
-    let head = [
-        READ,
-        (start / 65536 % 256) as u8,
-        (start / 256 % 256) as u8,
-        (start % 256) as u8,
-    ];
     let mut bytes = [0u8; CHUNK];
     let back = &mut bytes[0..BYTES.saturating_sub(start).min(CHUNK)];
-    chip.exchange(&head, back)?;
+    send(chip, Operation::Read, start, back)?;
     Ok(count_blank(back))
 }
 
@@ -61,8 +66,8 @@ fn sweep(chip: &mut BenchChip) -> Result<usize, PortFault> {
 }
 
 fn erased(chip: &mut BenchChip) -> Result<usize, PortFault> {
-    chip.exchange(&WRITE_ENABLE, &mut [])?;
-    chip.exchange(&BULK_ERASE, &mut [])?;
+    send(chip, Operation::WriteEnable, 0, &mut [])?;
+    send(chip, Operation::BulkErase, 0, &mut [])?;
     sweep(chip)
 }
 
@@ -73,27 +78,29 @@ fn plan_all(rt: &HostRuntime) -> anyhow::Result<()> {
     let bytes = vec![in heap; 0xA5; BYTES]?;
     let mut steps = vec![in heap; Step::UNUSED; BYTES / PAGE_BYTES]?;
     let mut data = vec![in heap; 0; BYTES]?;
-    let mut part = PlainImage::new(MOST_SECTORS, MOST_PAGES, STATUS, image).map_err(|_| anyhow!(
-        "the plain image cannot be made"
-    ))?;
-    let (cycles, sent) = plan(&mut part, 0, &bytes, &mut steps, &mut data).map_err(|_| anyhow!(
-        "the write is not planned"
-    ))?;
+    let mut part = PlainImage::new(MOST_SECTORS, MOST_PAGES, STATUS, image)
+        .ok()
+        .context("the plain image cannot be made")?;
+    let (cycles, sent) = plan(&mut part, 0, &bytes, &mut steps, &mut data)
+        .ok()
+        .context("the write is not planned")?;
     println!(rt; "a write of all of it: {cycles} cycles, {sent} bytes")?;
     Ok(())
 }
 
 fn main(rt: HostRuntime) -> anyhow::Result<()> {
+    // 00h everywhere, and no blank chip, so that the erase is seen
     let image = vec![in rt.alloc(); 0; BYTES]?;
-    let mut chip = BenchChip::new(CAPACITY, image, STATUS, 0).map_err(|_| anyhow!(
-        "the chip cannot be made"
-    ))?;
-    let blank = erased(&mut chip).map_err(|_| anyhow!("a frame was too long"))?;
+    let mut chip = BenchChip::new(CAPACITY, image, STATUS, 0)
+        .ok()
+        .context("the chip cannot be made")?;
+    let blank = erased(&mut chip).ok().context("a frame was too long")?;
     println!(rt; "{blank} bytes are FFh, read in {FRAMES} frames")?;
     let mut bytes = vec![in rt.alloc(); 0; BYTES]?;
-    let mut part = attach(chip, 1).map_err(|_| anyhow!("the driver does not attach"))?;
+    let mut part = attach(chip, 1).ok().context("the driver does not attach")?;
     part.read(0, &mut bytes)
-        .map_err(|_| anyhow!("the driver does not read"))?;
+        .ok()
+        .context("the driver does not read")?;
     let all = is_blank(&bytes);
     println!(rt; "all FFh through a driver: {all}")?;
     plan_all(&rt)

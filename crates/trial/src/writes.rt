@@ -1,10 +1,20 @@
 // The writes that are tried, each on the bench's memory of 2,048 bytes.
+ghost use Rattle.std.specs.Prelude.{◌<◌};
+
+use memory::model::PAGE_BYTES;
 use std::alloc::{AllocError, Global};
-use trials::trial::{OPEN, Trial, fill};
+use trials::trial::{OPEN, Trial, fill_range};
 
-pub const BYTES: usize = 2048;
+// Constants, and not looked up by `Model::find`: the writes below are placed for these sizes.
+pub const SECTORS: usize = 8;
 
-// The highest sector is protected.
+pub const PAGES: usize = 4;
+
+const SECTOR: usize = PAGES * PAGE_BYTES;
+
+pub const BYTES: usize = SECTORS * SECTOR;
+
+// A status byte that protects the highest sector.
 const TOP: u8 = 0x84;
 
 // FFh everywhere, and a write of n bytes FFh.
@@ -12,55 +22,63 @@ fn blank(heap: Global, status: u8, address: usize, n: usize) -> Result<Trial, Al
     Trial::blank(heap, BYTES, status, address, n)
 }
 
-// One 00h in each sector.
+// One 00h in each sector, and FFh over the first n bytes.
 fn spotted(heap: Global, status: u8, n: usize) -> Result<Trial, AllocError> {
     let mut trial = blank(heap, status, 0, n)?;
-    for sector in 0..8 {
-        fill(&mut trial.image, sector * 256, 1, 0);
+    for byte in trial.image.iter_mut().step_by(SECTOR) {
+        *byte = 0;
     }
     Ok(trial)
 }
 
-// Bytes that differ from place to place.
+// Each byte is its place times the factor, by the modulus: neighbours differ.
+fn mix(bytes: &mut [u8], factor: u8, modulus: u8)
+    requires { 0 < modulus }
+{
+    let factor = factor as usize;
+    let modulus = modulus as usize;
+    for (i, byte) in bytes.iter_mut().enumerate() {
+        *byte = (i % modulus * factor % modulus) as u8;
+    }
+}
+
+// Mixed bytes, written over others.
 fn mixed(heap: Global, address: usize, n: usize) -> Result<Trial, AllocError> {
     let mut trial = blank(heap, OPEN, address, n)?;
-    for (i, byte) in trial.image.iter_mut().enumerate() {
-        *byte = (i % 251 * 7 % 251) as u8;
-    }
-    for (i, byte) in trial.bytes.iter_mut().enumerate() {
-        *byte = (i % 247 * 13 % 247) as u8;
-    }
+    mix(&mut trial.image, 7, 251);
+    mix(&mut trial.bytes, 13, 247);
     Ok(trial)
 }
 
-// A recipe over three pages whose sector has a page outside it.
+// FFh and one 5Ah over three pages of 00h. The fourth page of their sector holds bytes that stay.
 fn outside(heap: Global) -> Result<Trial, AllocError> {
     let mut trial = blank(heap, OPEN, 256, 192)?;
-    fill(&mut trial.image, 256, 192, 0);
-    fill(&mut trial.image, 500, 2, 0xA5);
-    fill(&mut trial.bytes, 3, 1, 0x5A);
+    fill_range(&mut trial.image, 256, 192, 0);
+    fill_range(&mut trial.image, 500, 2, 0xA5);
+    fill_range(&mut trial.bytes, 3, 1, 0x5A);
     Ok(trial)
 }
 
 // A write whose first and last bytes are 00h.
 fn ended(heap: Global, address: usize, n: usize) -> Result<Trial, AllocError> {
     let mut trial = blank(heap, OPEN, address, n)?;
-    fill(&mut trial.bytes, 0, 1, 0);
-    fill(&mut trial.bytes, n.saturating_sub(1), 1, 0);
+    fill_range(&mut trial.bytes, 0, 1, 0);
+    fill_range(&mut trial.bytes, n.saturating_sub(1), 1, 0);
     Ok(trial)
 }
 
-// A byte of the protected sector would have to change.
+// A 00h in the protected sector, which would have to change.
 fn barred(heap: Global) -> Result<Trial, AllocError> {
     let mut trial = blank(heap, TOP, 1790, 4)?;
-    fill(&mut trial.bytes, 2, 1, 0);
+    fill_range(&mut trial.bytes, 2, 1, 0);
     Ok(trial)
 }
 
+// FFh and one 00h over two pages of 00h.
 fn two_pages(heap: Global) -> Result<Trial, AllocError> {
     let mut trial = blank(heap, OPEN, 0, 128)?;
-    fill(&mut trial.image, 0, 128, 0);
-    fill(&mut trial.bytes, 0, 1, 0);
+    fill_range(&mut trial.image, 0, 128, 0);
+    fill_range(&mut trial.bytes, 0, 1, 0);
     Ok(trial)
 }
 

@@ -7,7 +7,7 @@ use std::alloc::{AllocError, Global};
 pub const OPEN: u8 = 0x80;
 
 // A status byte, what the memory holds, and the write.
-#[derive(Drop)]
+#[derive(PartialEq, Eq, Debug, Drop)]
 pub struct Trial {
     pub status: u8,
     pub image: Vec<u8>,
@@ -35,8 +35,8 @@ impl Trial {
     }
 }
 
-// Writes the value over so many bytes from `from` on, as far as there are any.
-pub fn fill(bytes: &mut [u8], from: usize, count: usize, value: u8)
+// Writes a value over so many bytes from a place on, as far as there are any.
+pub fn fill_range(bytes: &mut [u8], from: usize, count: usize, value: u8)
     ensures { bytes.new ≡ take from bytes.old ++ (replicate (min count (length bytes.old - from)) value ++ drop (from + count) bytes.old) }
 {
     let from = from.min(bytes.len());

@@ -1,16 +1,20 @@
 // A driver tried on every chip, on both sides of a bus: cycles, polls and reads, and what came of them.
 #![tactic(auto)]
 
-use anyhow::{Context, anyhow};
+use anyhow::Context;
 use driver::attach::attach;
 use driver::driver::Driver;
+use hex_text::spaced::Spaced;
+use memory::geometry::Geometry;
 use memory::kind::Kind;
-use memory::model::{Model, PAGE_BYTES};
 use part::fault::PartFault;
 use part::part::Part;
+use part::size::geometry_of;
 use port::bench::BenchChip;
 use port::bus::{Bus, Side};
+use trials::chip::blank_chip;
 
+// Every chip, the small one first: the table that `Model::find` reads has another order.
 const CAPACITIES: [u8; 4] = [0x0B, 0x16, 0x17, 0x18];
 
 // The highest sector is protected.
@@ -23,15 +27,9 @@ const LIMIT: usize = 3;
 
 type Board = Bus<BenchChip, BenchChip>;
 
-fn made(rt: &HostRuntime, capacity: u8) -> anyhow::Result<BenchChip> {
-    let model = Model::find(capacity).context("no such chip")?;
-    let image = vec![in rt.alloc(); 0xFF; model.geometry.size()]?;
-    BenchChip::new(capacity, image, STATUS, BUSY).map_err(|_| anyhow!("the chip cannot be made"))
-}
-
-// Which poll, counted from 1, answers idle; none within the limit is 0.
-fn polled(part: &mut Driver<Board>) -> usize {
-    (1..=LIMIT).find(|_| part.poll()).unwrap_or(0)
+// Which poll, counted from 1, answers idle, if one within the limit does.
+fn polled(part: &mut Driver<Board>) -> Option<usize> {
+    (1..=LIMIT).find(|_| part.poll())
 }
 
 // A cycle, and polls until one answers idle.
@@ -44,10 +42,10 @@ fn carry(
 ) -> anyhow::Result<()> {
     match part.cycle(kind, address, data) {
         Err(fault) => println!(rt; "  {kind:?} {address}: refused, {fault:?}")?,
-        Ok(()) => {
-            let polls = polled(part);
-            println!(rt; "  {kind:?} {address}: done, idle at poll {polls}")?;
-        }
+        Ok(()) => match polled(part) {
+            Some(poll) => println!(rt; "  {kind:?} {address}: done, idle at poll {poll}")?,
+            None => println!(rt; "  {kind:?} {address}: done, busy after {LIMIT} polls")?,
+        },
     }
     Ok(())
 }
@@ -56,20 +54,17 @@ fn look(rt: &HostRuntime, part: &mut Driver<Board>, address: usize) -> anyhow::R
     let mut bytes = [0u8; 4];
     match part.read(address, &mut bytes) {
         Err(fault) => println!(rt; "  read {address}: refused, {fault:?}")?,
-        Ok(()) => {
-            let [a, b, c, d] = bytes;
-            println!(rt; "  read {address}: {a:02X} {b:02X} {c:02X} {d:02X}")?;
-        }
+        Ok(()) => println!(rt; "  read {address}:{}", Spaced(&bytes))?,
     }
     Ok(())
 }
 
 // Four bytes from place 62 come round to places 0 and 1.
 fn exercise(rt: &HostRuntime, part: &mut Driver<Board>) -> anyhow::Result<()> {
-    let sectors = part.sectors();
-    let pages = part.pages();
+    let geometry = geometry_of(part);
+    let Geometry { sectors, pages } = geometry;
     println!(rt; "  {sectors} sectors of {pages} pages")?;
-    let size = sectors.saturating_mul(pages).saturating_mul(PAGE_BYTES);
+    let size = geometry.size();
     carry(rt, part, Kind::Program, 62, &[0x11, 0x22, 0x33, 0x44])?;
     look(rt, part, 0)?;
     look(rt, part, 60)?;
@@ -90,13 +85,15 @@ fn exercise(rt: &HostRuntime, part: &mut Driver<Board>) -> anyhow::Result<()> {
 
 fn attach_and_try(rt: &HostRuntime, capacity: u8, side: Side) -> anyhow::Result<()> {
     println!(rt; "chip {capacity:02X} on side {side:?}")?;
-    let chip = made(rt, capacity)?;
-    let other = made(rt, 0x0B)?;
+    let chip = blank_chip(rt.alloc(), capacity, STATUS, BUSY)?;
+    let other = blank_chip(rt.alloc(), 0x0B, STATUS, BUSY)?;
     let board = match side {
         Side::First => Bus::new(chip, other, side),
         Side::Second => Bus::new(other, chip, side),
     };
-    let mut part = attach(board, LIMIT).map_err(|_| anyhow!("the driver does not attach"))?;
+    let mut part = attach(board, LIMIT)
+        .ok()
+        .context("the driver does not attach")?;
     exercise(rt, &mut part)
 }
 

@@ -1,0 +1,57 @@
+// A bench chip with nothing in it.
+ghost use Rattle.std.specs.Prelude.{◌≡◌, replicate, Some, None, MatchResult};
+ghost use Rattle.memory.specs.Models.{shape_for};
+ghost use Rattle.memory.specs.Shape.{size};
+ghost use Rattle.port.specs.Bench.{chip_of, fresh, unmade};
+ghost use Rattle.trials.specs.declared.chip.ChipFault.TheVariants as fault;
+
+use memory::image::Unmade;
+use memory::model::Model;
+use port::bench::BenchChip;
+use port::fault::Making;
+use std::alloc::{AllocError, Global};
+use thiserror::Error;
+
+// Why the chip cannot be made.
+#[derive(Clone, Copy, PartialEq, Eq, Debug, Error)]
+pub enum ChipFault {
+    #[error("the chip cannot be made: {0:?}")]
+    Making(Making),
+    #[error("no memory is left")]
+    NoMemory,
+}
+
+impl From<AllocError> for ChipFault {
+    ghost from_gives = { λ _ new. new ≡ fault.NoMemory };
+
+    fn from(_error: AllocError) -> ChipFault {
+        ChipFault::NoMemory
+    }
+}
+
+impl From<Unmade<Making>> for ChipFault {
+    ghost from_gives = { λ old new. new ≡ fault.Making old.fault };
+
+    fn from(unmade: Unmade<Making>) -> ChipFault {
+        ChipFault::Making(unmade.fault)
+    }
+}
+
+// A chip of the model with this capacity byte that holds FFh everywhere.
+pub fn blank_chip(
+    heap: Global,
+    capacity: u8,
+    status: u8,
+    busy: usize,
+) -> Result<BenchChip, ChipFault>
+    ensures { MatchResult result
+        (λ b. (unmade capacity (size (shape_for capacity)) status busy ≡ None) × (chip_of b ≡ fresh capacity (replicate (size (shape_for capacity)) 255) status) × (b.number ≡ busy))
+        (λ e. elim e [
+          | fault.Making why ↦ unmade capacity (size (shape_for capacity)) status busy ≡ Some why
+          | fault.NoMemory ↦ Unit {0}
+        ]) }
+{
+    let model = Model::find(capacity).ok_or(ChipFault::Making(Making::Geometry))?;
+    let blank = vec![in heap; 0xFF; model.geometry.size()]?;
+    Ok(BenchChip::new(capacity, blank, status, busy)?)
+}
