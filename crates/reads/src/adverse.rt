@@ -1,6 +1,6 @@
 // Memories and writes of which planning has to read much: nearly all is FFh, so that erases look cheap, and what the write
 // covers is not.
-use memory::model::PAGE_BYTES;
+use memory::model::{PAGE_BYTES, page_start};
 use std::alloc::{AllocError, Global};
 use trials::picker::Picker;
 use trials::trial::{Trial, fill_range};
@@ -44,8 +44,8 @@ fn pick_stretch(picker: &mut Picker, size: usize) -> Stretch {
     };
     let mut length = picker.pick(most);
     if picker.pick(2) == 0 {
-        address = address / PAGE_BYTES * PAGE_BYTES;
-        length = length / PAGE_BYTES * PAGE_BYTES;
+        address = page_start(address);
+        length = page_start(length);
     }
     Stretch {
         address,
