@@ -29,7 +29,7 @@ fn sector_cost<P: Part>(part: &mut P, write: Write<'_>, k: usize) -> Sector
     requires { Fitting (P.Part.meaning part.old) write.address write.bytes.now × (k < (P.Part.meaning part.old).shape.sectors) }
     ensures looked { LookedBy P.Part (64 * (P.Part.meaning part.old).shape.pages) part.old part.new }
     ensures bound { UpTo 4097 result.costs.cost × UpTo 2048 result.costs.presets }
-    ensures first { P.Part.intact part.old → result.pages ≡ sector_pages (P.Part.meaning part.old) write.entry.address write.entry.bytes.now k }
+    ensures pages { P.Part.intact part.old → result.pages ≡ sector_pages (P.Part.meaning part.old) write.entry.address write.entry.bytes.now k }
     ensures value { P.Part.intact part.old → result.costs.cost ≡ sector_cost fewest (P.Part.meaning part.old).shape (kept (P.Part.meaning part.old) write.entry.address write.entry.bytes.now) (preset (P.Part.meaning part.old) write.entry.address write.entry.bytes.now) k }
     ensures touched { P.Part.intact part.old → result.costs.presets ≡ over_sector fewest (P.Part.meaning part.old).shape (preset_on (P.Part.meaning part.old) write.entry.address write.entry.bytes.now) k }
 {

@@ -78,7 +78,8 @@ fn rest_cost<P: Part>(part: &mut P, write: Write<'_>, q: usize) -> Cost
     page_cost(&BLANK, &page)
 }
 
-// Pages as they stand, and once erased those that the write touches.
+// Pages as they stand, and once erased those that the write touches. `first` and `count` go side by side here and in three functions
+// more: their bound is the part's, so that a struct of both could not carry it.
 pub(crate) fn touched_costs<P: Part>(
     part: &mut P,
     write: Write<'_>,

@@ -1,18 +1,11 @@
 use Rattle.std.proofs.Common.{◌+◌, ◌-◌, None, ap, refl, subst, arith}
 use Rattle.least.specs.Window.{Shortest}
-use Rattle.least.proofs.Scans.{scan_first, scan_same, scan_better, scan-kept, scan-straight, scan_round}
+use Rattle.least.proofs.Scans.{scan_same, scan_better, scan-kept, scan-straight, scan_round}
 use Rattle.least.proofs.Windows.{window_is}
 use Rattle.least.proofs.window.window.Goals as goal
 
-pub returns-in_err-first : goal.returns-in_err-first
-returns-in_err-first c =
-    rw c.from_residual.ensures
-    (record { value = window_is _ _ _ None refl c.in_err-first.ensures; words = c.in_err-first.ensures })
-
-pub loop-place-init : goal.loop-place-init
-loop-place-init c =
-    let h = c.in_ok-first.ensures in
-    scan_first c.min-size.result c.args.old.now c.args.new.now c.in_ok-first.first (omega (arith, h.0)) h.1 h.2
+pub returns-in_err-first-clause-value : goal.returns-in_err-first-clause-value
+returns-in_err-first-clause-value c = rw c.from_residual.ensures (window_is _ _ _ None refl c.in_err-first.ensures)
 
 -- src/window.rt:34:5
 pub loop-place-preserved : goal.loop-place-preserved

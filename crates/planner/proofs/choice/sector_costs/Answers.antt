@@ -40,7 +40,7 @@ loop-k-preserved g c =
           ∙ sym (sum_more fewest k (sector_cost fewest m.shape (kept m a b) (preset m a b))),
       λ h.
           marked c.loop-k.marks (sector_pages m a b) k c.sector_cost-sector.result.pages (omega arith)
-          (sector.first (inv.0.keeps h) ∙ ap (λ x. sector_pages x a b k) inv.0.same) (inv.4 h),
+          (sector.pages (inv.0.keeps h) ∙ ap (λ x. sector_pages x a b k) inv.0.same) (inv.4 h),
       λ h.
           c.add_assign.ensures.after.1
           ∙ ap₂ (λ x y. fewest.plus x y) (inv.5 h)
