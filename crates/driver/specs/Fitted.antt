@@ -1,6 +1,6 @@
 -- A chip as an outline shows it that need not be true of it: its image made to the outline's length.
 use Rattle.std.specs.Prelude.{◌≡◌, ℕ, ◌+◌, ◌-◌, ◌<◌, cond, List, ◌++◌, length, take, replicate, slice_index, refl}
-use Rattle.std.proofs.Common.{ap, ap₂, ◌∙◌, ⊎_elim, arith, length-append}
+use Rattle.std.proofs.Common.{ap, ◌∙◌, ⊎_elim, arith, length-append}
 use Rattle.std.proofs.lemmas.List.{take_at, get_or-take, get_or_past, get_or_append_left, get_or-append_right, length-take-le, length-replicate}
 use Rattle.std.proofs.lemmas.Bool.{cases_lt}
 use Rattle.memory.specs.Shape.{size}
