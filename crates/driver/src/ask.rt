@@ -3,12 +3,9 @@ ghost use Rattle.std.specs.Prelude.{◌≡◌, ◌+◌, ◌≤◌, [], ◌∷◌
 ghost use Rattle.port.specs.Build.{built};
 ghost use Rattle.port.specs.Machine.{after, answer, frame};
 
-use port::build::build;
+use port::build::{LONGEST_BUILT, build};
 use port::instruction::Operation;
 use port::port::Port;
-
-// A page cycle: a code, three bytes of address and a page of data. Every port carries it.
-const MOST_SENT: usize = 68;
 
 // Sends a frame that the port can carry, and fills `back` with the answer. There is no heap: the frame is the first part of a
 // buffer of fixed length.
@@ -25,7 +22,7 @@ pub(crate) fn ask<P: Port>(
     ensures longest { P.Port.longest port.new ≡ P.Port.longest port.old }
     ensures trace { P.Port.trace port.old port.new (frame (built operation address «data».now) (length back.old) ∷ []) }
 {
-    let mut frame = [0; MOST_SENT];
+    let mut frame = [0; LONGEST_BUILT];
     let n = build(operation, address, data, &mut frame).unwrap();
     port.exchange(&frame[..n], back).unwrap();
 }

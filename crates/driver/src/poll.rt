@@ -5,11 +5,9 @@ ghost use Rattle.driver.specs.Frames.{identify_frame, status_frame};
 ghost use Rattle.driver.specs.Driving.{lowered};
 
 use crate::ask::ask;
+use memory::protection::WIP;
 use port::instruction::Operation;
 use port::port::Port;
-
-// Bit 0 of the status byte: a cycle is in progress.
-const WIP: u8 = 0x01;
 
 // One status read, and the byte that came back. While the chip is busy no rule says what bit 1 shows, so the contract takes
 // that bit from the byte.

@@ -1,5 +1,5 @@
 // The fence is a part.
-ghost use Rattle.std.specs.Prelude.{◌≡◌};
+ghost use Rattle.std.specs.Prelude.{◌≡◌, not};
 ghost use Rattle.std.proofs.Common.{◌∙◌, rules};
 ghost use Rattle.memory.specs.Protection.{free};
 ghost use Rattle.fence.specs.Closed.{bars, fenced, is_closed};
@@ -14,19 +14,20 @@ use part::refusal::{barred, check_form};
 use part::size::size_of;
 
 impl<P: Part> Fence<P> {
-    // If no sector is closed. The planner's `is_free` asks the same of the protected sectors: another list, by another call.
-    fn closes_none(&self) -> bool
-        ensures { result ≡ free (is_closed self.now.closed) (P.Part.meaning self.now.part).shape.sectors }
+    // If any sector is closed.
+    fn closes_any(&self) -> bool
+        ensures { result ≡ not (free (is_closed self.now.closed) (P.Part.meaning self.now.part).shape.sectors) }
     {
-        !(0..self.part.sectors()).any(|sector| self.is_closed(sector))
+        (0..self.part.sectors()).any(|sector| self.is_closed(sector))
     }
 
-    // If a closed sector stands in the way of the cycle: that of its address, and for a bulk erase any.
+    // If a closed sector stands in the way of the cycle: that of its address, and for a bulk erase any. (`Status::permits` asks the
+    // two cases of what a status byte protects: a function of both questions would be longer than either.)
     fn bars(&self, kind: Kind, address: usize) -> bool
         ensures { result ≡ bars (P.Part.meaning self.now.part).shape self.now.closed kind address }
     {
         if !kind.has_address() {
-            return !self.closes_none();
+            return self.closes_any();
         }
         self.is_closed(self.part.geometry().sector_of(address))
     }

@@ -11,11 +11,8 @@ ghost use Rattle.listing.specs.Writing.{line_text};
 use crate::sheet::Sheet;
 use crate::writer::{Frame, put_line};
 use least::step::Step;
-use port::build::build;
+use port::build::{LONGEST_BUILT, build};
 use port::instruction::{Instruction, Operation};
-
-// A page cycle: a code, three bytes of address and a page of data.
-const LONGEST_FRAME: usize = 68;
 
 // A pair, with the space or the 0Ah after it.
 const PAIR: usize = 3;
@@ -47,7 +44,7 @@ fn put_frame(operation: Operation, address: usize, data: &[u8], sheet: &mut Shee
     ensures { Wrote sheet.old sheet.new (line_text (exchange (built operation address «data».now) 0)) }
 {
     // There is no heap here: the frame is put together in a fixed buffer, of which it takes the first n bytes.
-    let mut frame = [0; LONGEST_FRAME];
+    let mut frame = [0; LONGEST_BUILT];
     let Ok(n) = build(operation, address, data, &mut frame) else {
         unreachable!()
     };

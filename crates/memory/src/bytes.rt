@@ -3,7 +3,7 @@ ghost use Rattle.std.specs.Prelude.{◌≡◌, ℕ, ◌<◌, length, replicate, 
 ghost use Rattle.memory.specs.Page.{blank};
 ghost use Rattle.memory.specs.Image.{rolled};
 
-// The slice's own `fill`, with what callers need of its bytes.
+// The slice's own `fill`, which does not say that each byte is below 256 as an image has to know it.
 pub fn fill(bytes: &mut [u8], value: u8)
     ensures after { bytes.new ≡ replicate (length bytes.old) value }
     ensures bytes { (i : ℕ) → slice_index bytes.new i < 256 }
@@ -27,10 +27,12 @@ pub fn roll(bytes: &[u8], from: usize, into: &mut [u8])
         return;
     }
     let at = from % bytes.len();
+    // at once where it does not come round, as nearly every page is read: byte by byte planning a whole memory is slower
     if into.len() <= bytes.len() - at {
         into.copy_from_slice(&bytes[at..at + into.len()]);
         return;
     }
+    // no `zip` with what comes round: its loop has no name for the bytes written so far
     for (i, byte) in into.iter_mut().enumerate() {
         *byte = bytes[(at + i) % bytes.len()];
     }

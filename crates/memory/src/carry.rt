@@ -13,15 +13,15 @@ use crate::model::{PAGE_BYTES, page_start};
 use crate::page::{erase, write};
 
 impl Image {
-    // The caller's bytes as an image; they are handed back where they cannot be one. The counts come as two numbers, since the
-    // refusal tells which of all that was passed is at fault.
+    // The caller's bytes as an image; they are handed back where they cannot be one. No `Geometry`: counts out of range are refused
+    // here too.
     pub fn new(sectors: usize, pages: usize, bytes: Vec<u8>) -> Result<Image, Unmade<ImageFault>>
         ensures { MatchResult result
             (λ i. (unmade sectors pages (vec_len bytes) ≡ None) × (i.geometry.sectors ≡ sectors) × (i.geometry.pages ≡ pages) × (i.bytes ≡ bytes))
             (λ e. (unmade sectors pages (vec_len bytes) ≡ Some e.fault) × (e.bytes ≡ bytes)) }
     {
         match Geometry::new(sectors, pages) {
-            Some(geometry) => Image::divided(geometry, bytes),
+            Some(geometry) => Image::with_geometry(geometry, bytes),
             None => Err(Unmade {
                 fault: ImageFault::Geometry,
                 bytes,
@@ -29,8 +29,8 @@ impl Image {
         }
     }
 
-    // The same of sectors and pages that a memory may have.
-    pub fn divided(geometry: Geometry, bytes: Vec<u8>) -> Result<Image, Unmade<ImageFault>>
+    // The same where the counts are known to be in range.
+    pub fn with_geometry(geometry: Geometry, bytes: Vec<u8>) -> Result<Image, Unmade<ImageFault>>
         ensures { MatchResult result
             (λ i. (unmade geometry.sectors geometry.pages (vec_len bytes) ≡ None) × (i.geometry ≡ geometry) × (i.bytes ≡ bytes))
             (λ e. (unmade geometry.sectors geometry.pages (vec_len bytes) ≡ Some e.fault) × (e.bytes ≡ bytes)) }

@@ -8,6 +8,9 @@ pub const MOST_SECTORS: usize = 128;
 
 pub const MOST_PAGES: usize = 2048;
 
+// The bytes of the largest memory.
+pub const MOST_BYTES: usize = MOST_SECTORS * MOST_PAGES * PAGE_BYTES;
+
 // 1 to 128 sectors of 1 to 2,048 pages.
 #[derive(Clone, Copy, PartialEq, Eq, Debug)]
 pub struct Geometry {
@@ -28,7 +31,7 @@ impl Geometry {
     pub fn new(sectors: usize, pages: usize) -> Option<Geometry>
         ensures { MatchOption result (in_range sectors pages ≡ false) (λ g. (in_range sectors pages ≡ true) × (g.sectors ≡ sectors) × (g.pages ≡ pages)) }
     {
-        if sectors == 0 || sectors > MOST_SECTORS || pages == 0 || pages > MOST_PAGES {
+        if !(1..=MOST_SECTORS).contains(&sectors) || !(1..=MOST_PAGES).contains(&pages) {
             return None;
         }
         Some(Geometry { sectors, pages })

@@ -1,4 +1,4 @@
-// The chips that are known.
+// The chips that are known, and their pages.
 ghost use Rattle.std.specs.Prelude.{◌≡◌, ◌*◌, ◌/◌};
 
 use crate::geometry::Geometry;

@@ -5,6 +5,12 @@ ghost use Rattle.memory.specs.Protection.{at_rest, free, protects};
 use crate::geometry::Geometry;
 use crate::kind::Kind;
 
+// A cycle is in progress.
+pub const WIP: u8 = 0x01;
+
+// The latch that write enable sets.
+pub const WEL: u8 = 0x02;
+
 const TB: u8 = 0x20;
 
 const BP3: u8 = 0x40;
@@ -86,11 +92,12 @@ pub fn is_protected(status: u8, sectors: usize, sector: usize) -> bool
     } else {
         sectors.min(1usize << (n - 1))
     };
-    if status & TB == 0 {
-        sectors - count <= sector && sector < sectors
+    let sectors_protected = if status & TB == 0 {
+        sectors - count..sectors
     } else {
-        sector < count
-    }
+        0..count
+    };
+    sectors_protected.contains(&sector)
 }
 
 #[cfg(test)]

@@ -1,8 +1,8 @@
-// A refusal as it is reported: who refuses, the number of the cause, and what is returned with it. specs/Reports.antt
+// A refusal as it is reported: who refuses, the cause, and what is returned with it. specs/Reports.antt
 // says which row it stands for, and how it is shown.
 ghost use Rattle.std.specs.Prelude.{◌≡◌, [], ◌∷◌, Some};
 ghost use Rattle.memory.specs.Row.{Row, rowed};
-ghost use Rattle.memory.specs.Reports.{layer_number, reported, shown_row};
+ghost use Rattle.memory.specs.Reports.{cause_number, layer_number, reported, shown_row};
 
 use std::fmt;
 
@@ -16,6 +16,25 @@ pub enum Layer {
     Listing = 4,
 }
 
+// The cause, by its number. docs/refusals.md says what each tells.
+#[derive(Clone, Copy, PartialEq, Eq, Debug)]
+pub enum Cause {
+    // an address past the end, or no such sector
+    Outside = 1,
+    PageData = 2,
+    Busy = 3,
+    Protected = 4,
+    NotBlank = 5,
+    StepsShort = 6,
+    DataShort = 7,
+    Abandoned = 8,
+    Limit = 9,
+    FrameLong = 10,
+    Malformed = 12,
+    Making = 13,
+    TextShort = 14,
+}
+
 #[derive(Clone, Copy, PartialEq, Eq, Debug)]
 pub enum Values {
     One(usize),
@@ -25,30 +44,29 @@ pub enum Values {
 #[derive(Clone, Copy, PartialEq, Eq, Debug)]
 pub struct Report {
     pub layer: Layer,
-    // as docs/refusals.md lists them
-    pub number: usize,
+    pub cause: Cause,
     pub values: Values,
 }
 
 impl Report {
-    pub fn one(layer: Layer, number: usize, value: usize) -> Report
-        ensures { reported result ≡ rowed (layer_number layer) number (value ∷ []) }
+    pub fn one(layer: Layer, cause: Cause, value: usize) -> Report
+        ensures { reported result ≡ rowed (layer_number layer) (cause_number cause) (value ∷ []) }
     {
         let values = Values::One(value);
         Report {
             layer,
-            number,
+            cause,
             values,
         }
     }
 
-    pub fn two(layer: Layer, number: usize, first: usize, second: usize) -> Report
-        ensures { reported result ≡ rowed (layer_number layer) number (first ∷ second ∷ []) }
+    pub fn two(layer: Layer, cause: Cause, first: usize, second: usize) -> Report
+        ensures { reported result ≡ rowed (layer_number layer) (cause_number cause) (first ∷ second ∷ []) }
     {
         let values = Values::Two(first, second);
         Report {
             layer,
-            number,
+            cause,
             values,
         }
     }
@@ -68,7 +86,7 @@ impl fmt::Display for Report {
 
     fn fmt<W: fmt::Write>(&self, f: &mut fmt::Formatter<W>) -> fmt::Result {
         let layer = self.layer as usize;
-        let number = self.number;
+        let number = self.cause as usize;
         match self.values {
             Values::One(a) => write!(f, "{layer} {number} {a}"),
             Values::Two(a, b) => write!(f, "{layer} {number} {a} {b}"),

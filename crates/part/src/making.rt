@@ -23,8 +23,8 @@ impl From<ImageFault> for Making {
 }
 
 impl PlainImage {
-    // The caller's bytes as a part, which are handed back where they cannot be one. The counts come as two numbers, since
-    // the refusal tells which of all that was passed is at fault.
+    // The caller's bytes as a part, which are handed back where they cannot be one. No `Geometry`: counts out of range are refused
+    // here too.
     pub fn new(
         sectors: usize,
         pages: usize,

@@ -5,7 +5,7 @@ use memory::protection::Status;
 #[derive(Clone, Copy, PartialEq, Eq, Debug)]
 pub struct Outline {
     pub geometry: Geometry,
-    // which says what is protected
+    // protects sectors
     pub status: Status,
     // whether polls are due
     pub busy: bool,

@@ -90,7 +90,7 @@ pub fn check_form(
 pub fn fills_page(kind: Kind, n: usize) -> bool
     ensures { result ≡ fills (shaped 0 0) kind n }
 {
-    !kind.has_data() || (n > 0 && n <= PAGE_BYTES)
+    !kind.has_data() || ((1..=PAGE_BYTES).contains(&n))
 }
 
 // The address that is told where a cycle meets protection: a bulk erase has none, and tells 0.

@@ -11,11 +11,12 @@ pub struct BenchChip {
     pub capacity: u8,
     pub image: Image,
     pub status: Status,
+    // whether the next cycle is taken: write enable sets it
     pub latch: bool,
     // how many status reads will still show busy
     pub busy: usize,
     // what a cycle sets `busy` to
-    pub number: usize,
+    pub busy_number: usize,
     ghost known: { is_some (lookup models capacity) ≡ true },
     ghost fitted: { shape_for capacity ≡ shape_of image },
 }

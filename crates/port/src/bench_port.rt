@@ -20,8 +20,8 @@ impl BenchChip {
     pub fn transfer(&mut self, sent: &[u8], back: &mut [u8]) -> Result<(), PortFault>
         ensures result { result ≡ verdict 320 (frame sent.now (length back.old)) }
         ensures back { back.new ≡ (if is_ok result then answer 0 (chip_of self.old) (frame sent.now (length back.old)) else back.old) }
-        ensures chip { chip_of self.new ≡ (if is_ok result then after self.old.number (chip_of self.old) (frame sent.now (length back.old)) else chip_of self.old) }
-        ensures number { self.new.number ≡ self.old.number }
+        ensures chip { chip_of self.new ≡ (if is_ok result then after self.old.busy_number (chip_of self.old) (frame sent.now (length back.old)) else chip_of self.old) }
+        ensures number { self.new.busy_number ≡ self.old.busy_number }
     {
         check_length(LONGEST, sent.len(), back.len())?;
         let order = hear(self.busy, self.image.len(), decode(sent, back.len()));
@@ -37,7 +37,7 @@ impl Port for BenchChip {
     ghost longest = { λ _. 320 };
 
     // Bit 1 shows 0 while busy, and a cycle sets the busy count to the number chosen at making.
-    ghost trace = { λ a b l. Runs a.number (chip_of a) l (chip_of b) × (a.number ≡ b.number) };
+    ghost trace = { λ a b l. Runs a.busy_number (chip_of a) l (chip_of b) × (a.busy_number ≡ b.busy_number) };
 
     ghost sound = { λ s.
         let w : length s.image.bytes.items ≡ size (shape_for s.capacity) =

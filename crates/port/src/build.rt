@@ -7,6 +7,10 @@ ghost use Rattle.port.specs.Build.{Understood, built, carried_by, headed, high_f
 use crate::fault::{PortFault, check_length};
 use crate::instruction::{Instruction, Operation, TABLE};
 use memory::bytes::fill;
+use memory::model::PAGE_BYTES;
+
+// The longest frame that is built, a page cycle's: a code, three bytes of address and a page of data. Every port carries it.
+pub const LONGEST_BUILT: usize = 4 + PAGE_BYTES;
 
 // The table stands in the order of the operations.
 fn place(operation: Operation) -> usize

@@ -6,11 +6,12 @@ ghost use Rattle.port.specs.Rows.{making_row, row};
 
 use memory::image::ImageFault;
 use memory::range::is_inside;
-use memory::report::{Layer, Report, Reported};
+use memory::report::{Cause, Layer, Report, Reported};
 
 #[derive(Clone, Copy, PartialEq, Eq, Debug)]
 pub enum PortFault {
-    // the bytes sent and the bytes wanted back are together more than the longest frame, which is returned
+    // the bytes sent and the bytes wanted back are together more than the longest frame, or the bytes of a frame that is built more
+    // than its buffer: what there is room for
     TooLong(usize),
 }
 
@@ -29,7 +30,7 @@ impl Reported for PortFault {
 
     fn report(self) -> Report {
         match self {
-            PortFault::TooLong(longest) => Report::one(Layer::Port, 10, longest),
+            PortFault::TooLong(longest) => Report::one(Layer::Port, Cause::FrameLong, longest),
         }
     }
 }
@@ -63,6 +64,6 @@ impl Reported for Making {
     ghost row = { making_row };
 
     fn report(self) -> Report {
-        Report::one(Layer::Port, 13, self as usize)
+        Report::one(Layer::Port, Cause::Making, self as usize)
     }
 }

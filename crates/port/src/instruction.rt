@@ -5,8 +5,8 @@ ghost use Rattle.port.specs.Operations.{operation_of};
 
 use memory::kind::Kind;
 
-// The five kinds of cycle stand among the others, and not as one case with a `Kind`: the place of an operation in the table is its
-// number.
+// The five kinds of cycle stand among the others, and not as one case with a `Kind`: an operation is so the index of its row in
+// `TABLE`.
 #[derive(Clone, Copy, PartialEq, Eq, Debug)]
 pub enum Operation {
     WriteEnable,

@@ -12,7 +12,7 @@ use memory::bytes::fill;
 use memory::image::{Image, Unmade};
 use memory::kind::Kind;
 use memory::model::Model;
-use memory::protection::Status;
+use memory::protection::{Status, WEL, WIP};
 
 const MOST_BUSY: usize = 4096;
 
@@ -26,11 +26,11 @@ impl BenchChip {
         capacity: u8,
         image: Vec<u8>,
         status: u8,
-        number: usize,
+        busy_number: usize,
     ) -> Result<BenchChip, Unmade<Making>>
         ensures { MatchResult result
-            (λ b. (unmade capacity (vec_len image) status number ≡ None) × (chip_of b ≡ fresh capacity image.items status) × (b.image.bytes ≡ image) × (b.number ≡ number))
-            (λ e. (unmade capacity (vec_len image) status number ≡ Some e.fault) × (e.bytes ≡ image)) }
+            (λ b. (unmade capacity (vec_len image) status busy_number ≡ None) × (chip_of b ≡ fresh capacity image.items status) × (b.image.bytes ≡ image) × (b.busy_number ≡ busy_number))
+            (λ e. (unmade capacity (vec_len image) status busy_number ≡ Some e.fault) × (e.bytes ≡ image)) }
     {
         let Some(model) = Model::find(capacity) else {
             return Err(Unmade {
@@ -38,14 +38,14 @@ impl BenchChip {
                 bytes: image,
             });
         };
-        let image = Image::divided(model.geometry, image).map_err(|unmade| unmade.convert())?;
+        let image = Image::with_geometry(model.geometry, image).map_err(|unmade| unmade.convert())?;
         let Some(status) = Status::new(status) else {
             return Err(Unmade {
                 fault: Making::Status,
                 bytes: image.into_bytes(),
             });
         };
-        if number > MOST_BUSY {
+        if busy_number > MOST_BUSY {
             return Err(Unmade {
                 fault: Making::Busy,
                 bytes: image.into_bytes(),
@@ -57,7 +57,7 @@ impl BenchChip {
             status,
             latch: false,
             busy: 0,
-            number,
+            busy_number,
         })
     }
 
@@ -73,9 +73,9 @@ impl BenchChip {
         ensures { result ≡ shown 0 (chip_of self.now) }
     {
         if self.busy > 0 {
-            self.status.bits + 1
+            self.status.bits + WIP
         } else if self.latch {
-            self.status.bits + 2
+            self.status.bits + WEL
         } else {
             self.status.bits
         }
@@ -120,8 +120,8 @@ impl BenchChip {
     // What the order does to the chip.
     pub(crate) fn act(&mut self, order: Order)
         requires { Within (length (bytes_of self.old.image)) (said order) }
-        ensures number { self.new.number ≡ self.old.number }
-        ensures chip { chip_of self.new ≡ act self.old.number (chip_of self.old) (said order.entry) }
+        ensures number { self.new.busy_number ≡ self.old.busy_number }
+        ensures chip { chip_of self.new ≡ act self.old.busy_number (chip_of self.old) (said order.entry) }
     {
         match order {
             Order::Enable => self.latch = true,
@@ -131,7 +131,7 @@ impl BenchChip {
                 if self.takes(kind, address) {
                     self.image.carry(kind, address, sent);
                     self.latch = false;
-                    self.busy = self.number;
+                    self.busy = self.busy_number;
                 }
             }
             Order::Identify | Order::Read(_) | Order::Unknown => {}

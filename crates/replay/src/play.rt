@@ -33,7 +33,7 @@ fn play_frame(
     out: &mut String,
 ) -> Result<(), AllocError>
     ensures back { back.new ≡ (if nat_le (length sent.now + length back.old) 320 then answer 0 (chip_of chip.old) (frame sent.now (length back.old)) else back.old) }
-    ensures chip { chip_of chip.new ≡ (if nat_le (length sent.now + length back.old) 320 then after chip.old.number (chip_of chip.old) (frame sent.now (length back.old)) else chip_of chip.old) }
+    ensures chip { chip_of chip.new ≡ (if nat_le (length sent.now + length back.old) 320 then after chip.old.busy_number (chip_of chip.old) (frame sent.now (length back.old)) else chip_of chip.old) }
     ensures out { OnOk result (string_bytes out.new ≡ string_bytes out.old ++ line_of (length sent.now + length back.old) back.new) }
 {
     match chip.transfer(sent, back) {
@@ -42,7 +42,7 @@ fn play_frame(
             writeln!(out, "{shown}")
         }
         Err(fault) => {
-            let number = fault.report().number;
+            let number = fault.report().cause as usize;
             writeln!(out, "E{number}")
         }
     }

@@ -42,7 +42,7 @@ impl Chip {
     // The bench chip.
     pub fn make(self) -> BenchChip
         ensures chip { chip_of result ≡ fresh self.capacity self.image.items self.status }
-        ensures number { result.number ≡ self.busy }
+        ensures number { result.busy_number ≡ self.busy }
     {
         let Chip {
             capacity,

@@ -45,7 +45,7 @@ pub fn blank_chip(
     busy: usize,
 ) -> Result<BenchChip, ChipFault>
     ensures { MatchResult result
-        (λ b. (unmade capacity (size (shape_for capacity)) status busy ≡ None) × (chip_of b ≡ fresh capacity (replicate (size (shape_for capacity)) 255) status) × (b.number ≡ busy))
+        (λ b. (unmade capacity (size (shape_for capacity)) status busy ≡ None) × (chip_of b ≡ fresh capacity (replicate (size (shape_for capacity)) 255) status) × (b.busy_number ≡ busy))
         (λ e. elim e [
           | fault.Making why ↦ unmade capacity (size (shape_for capacity)) status busy ≡ Some why
           | fault.NoMemory ↦ Unit {0}

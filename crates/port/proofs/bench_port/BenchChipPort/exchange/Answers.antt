@@ -12,11 +12,11 @@ returns-clause-back c =
 pub returns-clause-chip : goal.returns-clause-chip
 returns-clause-chip c =
     let b = c.args.self.now in
-    settles_if (is_ok c.transfer.result) b.number (chip_of b) (chip_of c.transfer.new.self) (frame c.args.sent.now (length c.args.back.now)) c.transfer.ensures.chip
+    settles_if (is_ok c.transfer.result) b.busy_number (chip_of b) (chip_of c.transfer.new.self) (frame c.args.sent.now (length c.args.back.now)) c.transfer.ensures.chip
 
 pub returns-clause-trace : goal.returns-clause-trace
 returns-clause-trace c =
     let b = c.args.self.now in (
-      runs_if (is_ok c.transfer.result) b.number (chip_of b) (chip_of c.transfer.new.self) (frame c.args.sent.now (length c.args.back.now)) c.transfer.ensures.chip,
+      runs_if (is_ok c.transfer.result) b.busy_number (chip_of b) (chip_of c.transfer.new.self) (frame c.args.sent.now (length c.args.back.now)) c.transfer.ensures.chip,
       sym c.transfer.ensures.number,
     )
