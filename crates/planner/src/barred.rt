@@ -6,7 +6,7 @@ ghost use Rattle.planner.specs.Asking.{for_barred};
 ghost use Rattle.planner.specs.Looking.{Fitting, LookedBy, PagesIn, Readable, wanted};
 ghost use Rattle.planner.specs.Changes.{FirstIn};
 
-use crate::look::{both_pages, protects, touches};
+use crate::look::{both_pages, protects};
 use crate::overlay::Write;
 use least::window::first_change;
 use memory::model::PAGE_BYTES;
@@ -18,7 +18,7 @@ fn change<P: Part>(part: &mut P, write: Write<'_>, q: usize) -> Option<usize>
     ensures looked { LookedBy P.Part 64 part.old part.new }
     ensures value { P.Part.intact part.old → FirstIn (q * 64) (q * 64 + 64) (P.Part.meaning part.old).image (wanted (P.Part.meaning part.old) write.entry.address write.entry.bytes.now) result }
 {
-    if !touches(write, q) {
+    if !write.touches(q) {
         return None;
     }
     let (old, new) = both_pages(part, write, q);

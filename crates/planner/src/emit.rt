@@ -10,7 +10,7 @@ ghost use Rattle.planner.specs.Choice.{Chosen};
 ghost use Rattle.planner.specs.Call.{plan_list};
 
 use crate::chosen::{Choice, Erasure, Pages};
-use crate::look::{both_pages, touches, wanted_page};
+use crate::look::{both_pages, wanted_page};
 use crate::overlay::Write;
 use crate::page::{BLANK, Page, only_lowers};
 use crate::sheet::Sheet;
@@ -43,7 +43,7 @@ fn put_page<P: Part>(part: &mut P, write: Write<'_>, pages: Pages, q: usize, she
     }
     match pages {
         Pages::Kept => {
-            if touches(write, q) {
+            if write.touches(q) {
                 let (old, new) = both_pages(part, write, q);
                 let kind = kept_kind(&old, &new);
                 sheet.put_page(kind, q, &old, &new);

@@ -4,7 +4,7 @@ ghost use Rattle.memory.specs.Page.{page};
 ghost use Rattle.part.specs.Meaning.{protected_at};
 ghost use Rattle.planner.specs.Looking.{Fitting, LookedBy, Readable, touched, wanted};
 
-use crate::overlay::{Write, overlay};
+use crate::overlay::Write;
 use crate::page::Page;
 use memory::model::PAGE_BYTES;
 use part::part::Part;
@@ -27,15 +27,6 @@ pub(crate) fn protects<P: Part>(part: &P, sector: usize) -> bool
     part.is_protected(sector) == Ok(true)
 }
 
-// Whether a write has bytes for page q.
-pub(crate) fn touches(write: Write<'_>, q: usize) -> bool
-    requires { q < 262144 }
-    ensures { result ≡ touched write.entry.address write.entry.bytes.now q }
-{
-    let start = q * PAGE_BYTES;
-    start < write.address + write.bytes.len() && write.address < start + PAGE_BYTES
-}
-
 // Page q as it stands, and as a write wants it. A struct of the part and the write would trade this `requires` and those like it for
 // an `ensures` in each function that it still holds the same reference, which is no plainer.
 pub(crate) fn both_pages<P: Part>(part: &mut P, write: Write<'_>, q: usize) -> (Page, Page)
@@ -46,7 +37,7 @@ pub(crate) fn both_pages<P: Part>(part: &mut P, write: Write<'_>, q: usize) -> (
 {
     let old = read_page(part, q);
     let mut new = old;
-    overlay(&mut new, q * PAGE_BYTES, write);
+    write.overlay(&mut new, q * PAGE_BYTES);
     (old, new)
 }
 
@@ -57,10 +48,10 @@ pub(crate) fn wanted_page<P: Part>(part: &mut P, write: Write<'_>, q: usize) -> 
     ensures bytes { P.Part.intact part.old → result ≡ page 64 q (wanted (P.Part.meaning part.old) write.entry.address write.entry.bytes.now) }
 {
     let start = q * PAGE_BYTES;
-    if write.address > start || write.address + write.bytes.len() < start + PAGE_BYTES {
+    if write.address > start || write.end() < start + PAGE_BYTES {
         return both_pages(part, write, q).1;
     }
     let mut bytes = [0; PAGE_BYTES];
-    overlay(&mut bytes, start, write);
+    write.overlay(&mut bytes, start);
     bytes
 }

@@ -5,23 +5,22 @@ ghost use Rattle.planner.specs.Running.{Carries, Refuses, held, lies};
 ghost use Rattle.planner.specs.Sent.{Same};
 
 use least::step::Step;
-use memory::kind::Kind;
 use part::fault::PartFault;
 use part::part::Part;
 use part::size::{is_inside, size_of};
 
-// What a step sends: its data, if they lie in the buffer; for an erase nothing is looked at.
+// What a step sends: its data, if they lie in the buffer. Of an erase, which sends none, length and place are not looked at.
 fn sent_by<'a>(step: &Step, data: &'a [u8]) -> Option<&'a [u8]>
     ensures { MatchOption result (held step.now.kind (lies step.now «data».now) ≡ false)
         (λ s. (held step.now.kind (lies step.now «data».now) ≡ true) × Same step.now.kind s.now (block step.now.place step.now.length «data».now)) }
 {
-    if is_inside(data.len(), step.place, step.length) {
-        return Some(&data[step.place..step.place + step.length]);
+    if !step.kind.has_data() {
+        return Some(&[]);
     }
-    match step.kind {
-        Kind::SectorErase | Kind::BulkErase => Some(&[]),
-        Kind::Program | Kind::Alter | Kind::Preset => None,
+    if !is_inside(data.len(), step.place, step.length) {
+        return None;
     }
+    Some(&data[step.place..step.place + step.length])
 }
 
 // Sends one step to a part with nothing due.

@@ -6,7 +6,7 @@ ghost use Rattle.planner.specs.Asking.{bytes_off, bytes_on};
 ghost use Rattle.planner.specs.Looking.{Fitting, LookedBy, PagesIn, Readable, touched};
 ghost use Rattle.planner.specs.Survey.{UpTo, below, erased_from, kept, kept_from, on_from, preset_off, preset_on};
 
-use crate::look::{both_pages, read_page, touches};
+use crate::look::{both_pages, read_page};
 use crate::overlay::Write;
 use crate::page::{BLANK, page_cost};
 use least::cost::{Cost, ERASE, NOTHING, added, at_most};
@@ -54,7 +54,7 @@ fn page_costs<P: Part>(part: &mut P, write: Write<'_>, q: usize) -> Costs
     ensures kept { P.Part.intact part.old → result.cost ≡ kept (P.Part.meaning part.old) write.entry.address write.entry.bytes.now q }
     ensures preset { P.Part.intact part.old → result.presets ≡ preset_on (P.Part.meaning part.old) write.entry.address write.entry.bytes.now q }
 {
-    if !touches(write, q) {
+    if !write.touches(q) {
         return Costs::NONE;
     }
     let (old, new) = both_pages(part, write, q);
@@ -71,7 +71,7 @@ fn rest_cost<P: Part>(part: &mut P, write: Write<'_>, q: usize) -> Cost
     ensures bound { UpTo 1 result }
     ensures value { P.Part.intact part.old → result ≡ preset_off (P.Part.meaning part.old) write.entry.address write.entry.bytes.now q }
 {
-    if touches(write, q) {
+    if write.touches(q) {
         return NOTHING;
     }
     let page = read_page(part, q);

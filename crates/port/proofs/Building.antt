@@ -84,13 +84,6 @@ length-headed i a sent =
     let e = length-append (replicate i.dummy 0) sent in
     let f = length-append (high_first i.address a) (replicate i.dummy 0 ++ sent) in omega arith
 
-carried-take : (b : Bool) (s : List ℕ) → take (length (carried_by b s)) s ≡ carried_by b s
-carried-take true s = take_all (length s) s (omega arith)
-carried-take false s = refl
-
-pub carried-part : (b : Bool) (s : List ℕ) (n : ℕ) → n ≡ length (carried_by b s) → take (n - 0) (drop 0 s) ≡ carried_by b s
-carried-part b s n e = let z : n - 0 ≡ length (carried_by b s) = omega arith in ap (λ k. take k s) z ∙ carried-take b s
-
 pub built_is : (o : Operation) (i : Instruction) (a : ℕ) (s : List ℕ) → i ≡ listed o → built o a s ≡ headed i a (carried_by i.carries s)
 unfolding built
 built_is o i a s e = ap (λ (x : Instruction). headed x a (carried_by x.carries s)) (sym e)

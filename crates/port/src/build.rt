@@ -51,11 +51,11 @@ fn lay_out(row: Instruction, address: usize, data: &[u8], into: &mut [u8])
     into[head..head + data.len()].copy_from_slice(data);
 }
 
-// How many bytes of data follow.
-fn carried(carries: bool, data: &[u8]) -> usize
-    ensures { result ≡ length (carried_by carries «data».now) }
+// The data that follow, if any may.
+fn carried<'a>(carries: bool, data: &'a [u8]) -> &'a [u8]
+    ensures { result.now ≡ carried_by carries «data».now }
 {
-    if carries { data.len() } else { 0 }
+    if carries { data } else { &[] }
 }
 
 // Writes a frame into the buffer, and says how long it is. One that has no room is refused, and the buffer stays.
@@ -71,8 +71,8 @@ pub fn build(
 {
     let row = Instruction::of(operation);
     let head = row.head();
-    let n = carried(row.carries, data);
-    check_length(into.len(), head, n)?;
-    lay_out(row, address, &data[0..n], into);
-    Ok(head + n)
+    let sent = carried(row.carries, data);
+    check_length(into.len(), head, sent.len())?;
+    lay_out(row, address, sent, into);
+    Ok(head + sent.len())
 }

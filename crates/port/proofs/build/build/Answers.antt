@@ -1,7 +1,7 @@
-use Rattle.std.proofs.Common.{◌≡◌, ◌+◌, ◌-◌, ◌++◌, length, take, drop, sym, ap, ◌∙◌, ap₂, arith}
+use Rattle.std.proofs.Common.{◌≡◌, ◌+◌, ◌++◌, length, drop, sym, ap, ◌∙◌, ap₂, arith}
 use Rattle.std.proofs.lemmas.Bool.Decides.{nat_tests}
 use Rattle.port.specs.Build.{built, headed, carried_by}
-use Rattle.port.proofs.Building.{address_most, understood, built_is, length-built, carried-part}
+use Rattle.port.proofs.Building.{address_most, understood, built_is, length-built}
 use Rattle.port.proofs.build.build.Goals as goal
 
 pub lay_out-requires-clause-address : goal.lay_out-requires-clause-address
@@ -10,7 +10,7 @@ lay_out-requires-clause-address c = let a = address_most c.args.operation c.of-r
 pub returns-in_err-check_length-clause-result : goal.returns-in_err-check_length-clause-result
 returns-in_err-check_length-clause-result c =
     let l = length-built c.args.operation c.of-row.result c.args.address c.args.data.now c.of-row.ensures in
-    let n = c.carried-n.ensures in grind (arith, nat_tests)
+    let n = ap length c.carried-sent.ensures in grind (arith, nat_tests)
 
 pub returns-in_err-check_length-clause-understood : goal.returns-in_err-check_length-clause-understood
 returns-in_err-check_length-clause-understood c = understood
@@ -23,13 +23,11 @@ returns c =
     let f = built c.args.operation c.args.address s in
     let b = built_is c.args.operation i c.args.address s c.of-row.ensures in
     let l = length-built c.args.operation i c.args.address s c.of-row.ensures in
-    let n = c.carried-n.ensures in
-    let e : 1 + i.address + i.dummy + c.carried-n.result ≡ length f = omega arith in
-    let part = take (c.carried-n.result - 0) (drop 0 s) in
-    let t : part ≡ carried_by i.carries s = carried-part i.carries s c.carried-n.result n in
-    let k : 1 + i.address + i.dummy + length part ≡ 0 + length f = ap (λ x. 1 + i.address + i.dummy + length x) t ∙ omega arith in
+    let t : c.carried-sent.result.now ≡ carried_by i.carries s = c.carried-sent.ensures in
+    let n = ap length t in
+    let e : 1 + i.address + i.dummy + length c.carried-sent.result.now ≡ 0 + length f = omega arith in
     record {
       result = grind (arith, nat_tests);
-      bytes = c.lay_out.ensures ∙ ap₂ (λ x y. x ++ drop y into) (ap (headed i c.args.address) t ∙ sym b) k;
+      bytes = c.lay_out.ensures ∙ ap₂ (λ x y. x ++ drop y into) (ap (headed i c.args.address) t ∙ sym b) e;
       understood = understood;
     }

@@ -4,7 +4,7 @@ use Rattle.std.proofs.lemmas.Iterator.{YieldsList-from_range}
 use Rattle.std.proofs.lemmas.Iterator.Search.{any_from_yields_List}
 use Rattle.memory.specs.Protection.{free}
 use Rattle.fence.specs.Closed.{is_closed}
-use Rattle.fence.proofs.fence.Fence.closes_none.Goals as goal
+use Rattle.fence.proofs.fence.Fence.closes_any.Goals as goal
 
 -- none of the next is closed either
 next : (x y z : Bool) → (not (x || y) && z) ≡ (not y && (not x && z))
@@ -23,8 +23,14 @@ with_true : (b : Bool) → b ≡ (b && true)
 with_true true = refl
 with_true false = refl
 
+twice : (b : Bool) → b ≡ not (not b)
+twice true = refl
+twice false = refl
+
 pub returns : goal.returns
 returns g c =
     let closed = is_closed c.args.self.now.closed in
-    ap not (any_from_yields_List closed _ _ _ c.any.ensures.ran (YieldsList-from_range 0 c.sectors.result c.sectors.result refl (omega arith)) (λ x b q k. search rules))
-    ∙ with_true _ ∙ none_of closed 0 c.sectors.result ∙ ap (free closed) (omega (arith, c.sectors.ensures))
+    twice _
+    ∙ ap not
+    (ap not (any_from_yields_List closed _ _ _ c.any.ensures.ran (YieldsList-from_range 0 c.sectors.result c.sectors.result refl (omega arith)) (λ x b q k. search rules))
+    ∙ with_true _ ∙ none_of closed 0 c.sectors.result ∙ ap (free closed) (omega (arith, c.sectors.ensures)))
