@@ -1,11 +1,12 @@
 -- Loops over the bytes of a page.
-use Rattle.std.proofs.Common.{◌≡◌, ℕ, zero, suc, ◌+◌, ◌-◌, ◌%◌, ◌<◌, ◌≤◌, min, Bool, ◌&&◌, eqb, List, [], ◌∷◌, ◌++◌, length, get_or, take, drop, sym, refl, ap, ◌∙◌, ⊎_elim, add-zero, mod-eq_of_lt, arith, length-append, length-drop, length-take, get_or-drop, get_or-take, ext_get_or}
+use Rattle.std.proofs.Common.{◌≡◌, ℕ, zero, suc, ◌+◌, ◌-◌, ◌%◌, ◌<◌, ◌≤◌, min, Bool, ◌&&◌, eqb, List, [], ◌∷◌, ◌++◌, length, get_or, take, drop, sym, refl, ap, ◌∙◌, ⊎_elim, add-zero, add-one, ap₂, arith, length-append, length-drop, length-take, get_or-drop, get_or-take, ext_get_or}
 use native.Mathlib.Nat.{mod-eq-sub-mod}
 use Rattle.std.proofs.lemmas.Bool.{cases_lt}
 use lib.Bits.{bit_and}
 use lib.Seq.{sets, sets-eq}
 use Rattle.std.proofs.lemmas.List.{append_assoc, drop-drop, get_or_append_left, get_or-append_right}
 use Rattle.std.specs.List.{list_all, zip}
+use Rattle.memory.specs.Image.{rolled}
 use Rattle.least.specs.Plan.{lowers, bytes_from}
 use Rattle.least.proofs.Runs.{length-bytes_from}
 
@@ -27,38 +28,12 @@ get_or-bytes z new a (suc n) (suc j) h = get_or-bytes z new (suc a) n j (omega a
     next : suc a + j ≡ a + suc j
     next = omega arith
 
--- the run is what stands from place a on, and then what stands from the front on
-pub bytes_copied :
-    (z : ℕ) (new front round : List ℕ) (a n f : ℕ) → length new ≡ z → a < z → n ≤ z → f ≡ min n (z - a) → front ≡ take f (drop a new)
-    → round ≡ take (n - f) new → front ++ round ≡ bytes_from z new a n
-bytes_copied z new front round a n f e h k t u v =
-    ext_get_or 0 _ _ whole (λ j l. ⊎_elim (low j) (λ w. high j w (omega (arith, l, whole, length-bytes_from z new a n))) (cases_lt j f))
-  where
-    long : length front ≡ f
-    long = ap length u ∙ simp (length-take, length-drop) (omega arith)
-
-    whole : length (front ++ round) ≡ length (bytes_from z new a n)
-    whole = omega (arith, length-append front round, long, ap length v, length-take (n - f) new, length-bytes_from z new a n)
-
-    low : (j : ℕ) → j < f → get_or (front ++ round) j 0 ≡ get_or (bytes_from z new a n) j 0
-    low j l =
-        get_or_append_left front round 0 j (omega (arith, long))
-        ∙ (ap (λ x. get_or x j 0) u
-        ∙ (get_or-take f (drop a new) j 0 l
-        ∙ (get_or-drop a new j 0
-        ∙ (ap (λ x. get_or new x 0) (sym (mod-eq_of_lt (omega arith))) ∙ sym (get_or-bytes z new a n j (omega arith))))))
-
-    high : (j : ℕ) → f ≤ j → j < n → get_or (front ++ round) j 0 ≡ get_or (bytes_from z new a n) j 0
-    high j l m =
-        get_or-append_right front round f j 0 long l
-        ∙ (ap (λ x. get_or x (j - f) 0) v
-        ∙ (get_or-take (n - f) new (j - f) 0 (omega arith)
-        ∙ (ap (λ x. get_or new x 0) there ∙ sym (get_or-bytes z new a n j m))))
-      where
-        there : j - f ≡ (a + j) % z
-        there =
-            let s : j - f ≡ a + j - z = omega arith in
-            s ∙ sym (mod-eq-sub-mod (omega arith) ∙ mod-eq_of_lt (omega arith))
+-- the run of a page from a place on, as reading a memory that comes round has it
+pub rolled_from : (page : List ℕ) (a n : ℕ) → length page ≡ 64 → rolled page a n ≡ bytes_from 64 page a n
+unfolding rolled
+rolled_from page a zero h = refl
+rolled_from page a (suc n) h =
+    ap₂ (λ x y. get_or page (a % x) 0 ∷ y) h (rolled_from page (a + 1) n h ∙ ap (λ x. bytes_from 64 page x n) (add-one a))
 
 -- and the run put in the middle of a buffer, as the checker has it
 pub put_run :

@@ -9,6 +9,7 @@ ghost use Rattle.least.specs.Window.{window};
 use crate::page::Page;
 use least::step::Step;
 use least::window::{Run, window};
+use memory::bytes::roll;
 use memory::kind::Kind;
 use memory::model::PAGE_BYTES;
 
@@ -87,13 +88,9 @@ impl<'a> Sheet<'a> {
     }
 }
 
-// The bytes of a page from a place on, which come round at the page's end, as many as fill the buffer.
+// The bytes of a page from a place on, as many as fill the buffer: they come round at the page's end, as reading a memory does.
 fn send_bytes(data: &mut [u8], page: &Page, start: usize)
-    requires { (start < 64) × (length «data».old ≤ 64) }
     ensures { «data».new ≡ bytes_from 64 page.now start (length «data».old) }
 {
-    let straight = data.len().min(PAGE_BYTES - start);
-    let (front, round) = data.split_at_mut(straight);
-    front.copy_from_slice(&page[start..start + straight]);
-    round.copy_from_slice(&page[..round.len()]);
+    roll(page, start, data);
 }

@@ -14,8 +14,18 @@ impl Reported for WriteFault {
             WriteFault::Outside(address) => Report::one(Layer::Caller, Cause::Outside, address),
             WriteFault::StillBusy(polls) => Report::one(Layer::Caller, Cause::Busy, polls),
             WriteFault::Protected(address) => Report::one(Layer::Caller, Cause::Protected, address),
-            WriteFault::StepsShort(cost) => Report::two(Layer::Caller, Cause::StepsShort, cost.0, cost.1),
-            WriteFault::DataShort(cost) => Report::two(Layer::Caller, Cause::DataShort, cost.0, cost.1),
+            WriteFault::StepsShort(cost) => Report::two(
+                Layer::Caller,
+                Cause::StepsShort,
+                cost.0,
+                cost.1,
+            ),
+            WriteFault::DataShort(cost) => Report::two(
+                Layer::Caller,
+                Cause::DataShort,
+                cost.0,
+                cost.1,
+            ),
             WriteFault::Abandoned(cycles) => Report::one(Layer::Caller, Cause::Abandoned, cycles),
             WriteFault::Refused { step: _, fault } => fault.report(),
         }
