@@ -35,7 +35,8 @@ pub enum Refusal {
     Write(WriteFault),
 }
 
-// No Result: an abandoned write is neither done nor refused.
+// No Result: a call that is abandoned is neither done nor refused, and each of the three is told in its own words. (A write answers it
+// as a fault; `Refused` never holds that one.)
 #[derive(Clone, Copy, PartialEq, Eq, Debug)]
 pub enum Answer {
     Done,

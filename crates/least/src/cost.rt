@@ -25,6 +25,9 @@ pub fn added(a: Cost, b: Cost) -> Cost
     (a.0.saturating_add(b.0), a.1.saturating_add(b.1))
 }
 
+// The next three decide of costs that are known whole, for callers that have them. The planner decides alike, and stops adding up
+// where the erase is no longer lower.
+
 // Whether a sector is erased before its pages are written: only where that is strictly lower.
 pub fn erases(keep: Cost, erase: Cost) -> bool
     ensures { result ≡ not (fewest.leq keep erase) }

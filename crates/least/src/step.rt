@@ -13,7 +13,8 @@ pub struct Step {
 }
 
 impl Step {
-    // What a list of steps holds before a plan is put into it.
+    // What a list of steps holds before a plan is put into it. It is a value like any other: how many steps are a plan's is told by
+    // its cost.
     pub const UNUSED: Step = Step {
         kind: Kind::BulkErase,
         address: 0,

@@ -42,8 +42,8 @@ pub fn window(old: &[u8], new: &[u8]) -> Option<Run>
         start: first,
         length: size,
     };
-    // over the places: each is compared once, and else only reckoned with, so that `zip`, `enumerate` and `skip` would put a place
-    // and its two bytes together only to take them apart again
+    // by place, since only places are reckoned with: a chain of `zip`, `enumerate` and `skip` is no shorter, and gives each place
+    // with two bytes that are compared and let go
     for place in first + 1..size {
         if old[place] != new[place] {
             let length = size - (place - last) + 1;

@@ -15,8 +15,8 @@ use crate::port::Port;
 const LONGEST: usize = 320;
 
 impl BenchChip {
-    // Sends a frame, as the machine does where bit 1 shows 0 while busy and a cycle sets the busy count to the number
-    // chosen at making.
+    // As `exchange`, with more said: bit 1 shows 0 while the chip is busy, and a cycle sets the busy count to the number chosen at
+    // making.
     pub fn transfer(&mut self, sent: &[u8], back: &mut [u8]) -> Result<(), PortFault>
         ensures result { result ≡ verdict 320 (frame sent.now (length back.old)) }
         ensures back { back.new ≡ (if is_ok result then answer 0 (chip_of self.old) (frame sent.now (length back.old)) else back.old) }

@@ -81,7 +81,7 @@ impl BenchChip {
         }
     }
 
-    // The three bytes of the identification, as many as are wanted.
+    // The three bytes of the identification, as many of them as are wanted. For more, which no frame has that `decode` takes, FFh.
     fn identify(&self, back: &mut [u8])
         ensures { back.new ≡ reply 0 (chip_of self.now) identify (length back.old) }
     {

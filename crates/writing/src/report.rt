@@ -1,10 +1,21 @@
 // A write's refusal as it is reported.
+ghost use Rattle.std.specs.Prelude.{◌≡◌, [], ◌∷◌};
+ghost use Rattle.memory.specs.Row.{rowed};
+ghost use Rattle.memory.specs.Reports.{cause_number, reported};
 ghost use Rattle.writing.specs.WriteRows.{row};
 
 use crate::fault::WriteFault;
+use least::cost::Cost;
 use memory::report::{Cause, Layer, Report, Reported};
 
-// A cost is told as its cycles and its data bytes, and a refused step as the part refused it.
+// No room for a plan of this cost, which is told as its cycles and its data bytes.
+fn short(cause: Cause, cost: Cost) -> Report
+    ensures { reported result ≡ rowed 1 (cause_number cause) (cost.0 ∷ cost.1 ∷ []) }
+{
+    Report::two(Layer::Caller, cause, cost.0, cost.1)
+}
+
+// A refused step is told as the part refused it.
 impl Reported for WriteFault {
     ghost row = { row };
 
@@ -14,18 +25,8 @@ impl Reported for WriteFault {
             WriteFault::Outside(address) => Report::one(Layer::Caller, Cause::Outside, address),
             WriteFault::StillBusy(polls) => Report::one(Layer::Caller, Cause::Busy, polls),
             WriteFault::Protected(address) => Report::one(Layer::Caller, Cause::Protected, address),
-            WriteFault::StepsShort(cost) => Report::two(
-                Layer::Caller,
-                Cause::StepsShort,
-                cost.0,
-                cost.1,
-            ),
-            WriteFault::DataShort(cost) => Report::two(
-                Layer::Caller,
-                Cause::DataShort,
-                cost.0,
-                cost.1,
-            ),
+            WriteFault::StepsShort(cost) => short(Cause::StepsShort, cost),
+            WriteFault::DataShort(cost) => short(Cause::DataShort, cost),
             WriteFault::Abandoned(cycles) => Report::one(Layer::Caller, Cause::Abandoned, cycles),
             WriteFault::Refused { step: _, fault } => fault.report(),
         }
