@@ -1,0 +1,2 @@
+pub mod Slowly
+pub mod Slowing

@@ -1,0 +1,38 @@
+-- Runs of events on a slow image, and that it is a part that can be.
+use Rattle.std.specs.Prelude.{◌≡◌, ℕ, List, ◌++◌, length, refl}
+use Rattle.std.proofs.Common.{sym, subst, ◌∙◌}
+use Rattle.memory.specs.Shape.{size}
+use Rattle.memory.specs.Image.{shape_of}
+use Rattle.part.specs.Guards.{length-guards}
+use Rattle.part.specs.Meaning.{Meaning, Event, Sound}
+use Rattle.side_by_side.specs.declared.slow.SlowImage.{SlowImage}
+use Rattle.side_by_side.specs.Slowly.{Played, none, read, cycle, poll, slowly}
+
+played-++ : {n : ℕ} {a b c : Meaning} {l m : List Event} → Played n a l b → Played n b m c → Played n a (l ++ m) c
+played-++ none q = q
+played-++ (read p) q = read (played-++ p q)
+played-++ (cycle d t p) q = cycle d t (played-++ p q)
+played-++ (poll p) q = poll (played-++ p q)
+
+-- what a slow image's trace says
+abbrev pub Slowed : SlowImage → SlowImage → List Event → Type 0
+Slowed a b l = Played a.number (slowly a) l (slowly b) × (b.number ≡ a.number)
+
+pub slowed-++ : (a b c : SlowImage) (l m : List Event) → Slowed a b l → Slowed b c m → Slowed a c (l ++ m)
+slowed-++ a b c l m p q =
+    let P : ℕ → Type 0 = λ n. Played n (slowly b) m (slowly c) in
+    (played-++ p.0 (subst P p.1 q.0), q.1 ∙ p.1)
+
+pub slow-sound : (s : SlowImage) → Sound (slowly s)
+slow-sound s =
+    let i = s.plain.image in
+    let w : length i.bytes.items ≡ size (shape_of i) = sym i.bytes.ok.0 ∙ i.sized in
+    record {
+      some = i.geometry.some;
+      few = i.geometry.few;
+      paged = i.geometry.paged;
+      low = i.geometry.low;
+      page = refl;
+      each = length-guards s.plain.status.bits i.geometry.sectors;
+      imaged = record { whole = w; bytes = i.byte };
+    }

@@ -1,0 +1,56 @@
+// The slow image is a part.
+ghost use Rattle.std.specs.Prelude.{refl};
+ghost use Rattle.side_by_side.specs.Slowly.{none, slowly};
+ghost use Rattle.side_by_side.specs.Slowing.{Slowed, slow-sound, slowed-++};
+
+use crate::slow::SlowImage;
+use memory::kind::Kind;
+use part::fault::PartFault;
+use part::part::Part;
+
+impl Part for SlowImage {
+    ghost meaning = { slowly };
+
+    ghost trace = { Slowed };
+
+    // It has no device to be wrong about.
+    ghost intact = { λ _. Unit {0} };
+
+    ghost sound = { slow-sound };
+
+    ghost stays = { λ s. (none, refl) };
+
+    ghost joins = { slowed-++ };
+
+    fn sectors(&self) -> usize {
+        self.plain.sectors()
+    }
+
+    fn pages(&self) -> usize {
+        self.plain.pages()
+    }
+
+    fn is_busy(&self) -> bool {
+        self.plain.busy
+    }
+
+    fn is_protected(&self, sector: usize) -> Result<bool, PartFault> {
+        self.plain.is_protected(sector)
+    }
+
+    fn read(&mut self, address: usize, into: &mut [u8]) -> Result<(), PartFault> {
+        self.plain.read(address, into)
+    }
+
+    fn cycle(&mut self, kind: Kind, address: usize, data: &[u8]) -> Result<(), PartFault> {
+        self.plain.cycle(kind, address, data)?;
+        self.left = self.number;
+        Ok(())
+    }
+
+    fn poll(&mut self) -> bool {
+        self.plain.busy = self.plain.busy && self.left > 0;
+        self.left = self.left.saturating_sub(1);
+        !self.plain.busy
+    }
+}
