@@ -5,7 +5,7 @@ ghost use Rattle.listing.specs.Scan.{pair_of, goes_on};
 use crate::hex::byte;
 
 // The byte that the pair at the start spells, if there is one.
-pub(crate) fn pair(text: &[u8]) -> Option<u8>
+pub fn read_pair(text: &[u8]) -> Option<u8>
     ensures value { result ≡ pair_of text.now }
     ensures within { OnSome result (2 ≤ length text.now) }
 {

@@ -3,7 +3,7 @@ ghost use Rattle.std.specs.Prelude.{◌≡◌};
 ghost use Rattle.listing.specs.Parts.{part_of};
 ghost use Rattle.listing.specs.Writing.{text_of};
 
-#[derive(Clone, Copy)]
+#[derive(Clone, Copy, PartialEq, Eq, Debug)]
 pub enum Item<'a> {
     // From the `;` to the end of the line.
     Note(&'a [u8]),
@@ -24,16 +24,16 @@ impl<'a> Item<'a> {
 }
 
 // An item and where it begins, both counted from 1, the column in bytes.
-#[derive(Clone, Copy)]
+#[derive(Clone, Copy, PartialEq, Eq, Debug)]
 pub struct Placed<'a> {
     pub item: Item<'a>,
     pub line: usize,
     pub column: usize,
 }
 
-// The items of one line: a note, or a frame that a count may follow. That a count follows only a frame is promised by the
-// reader (`LineText`): an enum would name a second time what each item names itself.
-#[derive(Clone, Copy)]
+// The items of one line: a note, or a frame that a count may follow. `Reader::next_line` promises that a note has no count
+// behind it. The type does not say so: each item already bears its kind, and an enum of lines would bear it again.
+#[derive(Clone, Copy, PartialEq, Eq, Debug)]
 pub struct Line<'a> {
     pub first: Placed<'a>,
     pub count: Option<Placed<'a>>,

@@ -1,7 +1,7 @@
 //! Frame listings: frames as text, one a line.
 #![tactic(auto)]
 
-mod bytes;
+pub mod bytes;
 mod extent;
 pub mod fault;
 pub mod hex;

@@ -2,38 +2,41 @@
 ghost use Rattle.std.specs.Prelude.{◌≡◌, length};
 ghost use Rattle.listing.specs.Values.{values, good, tallied, Spelled, read_answer, read_into};
 
-use crate::bytes::pair;
+use crate::bytes::read_pair;
 use crate::fault::ListingFault;
 use crate::room::check_room;
+use crate::sheet::PAIR;
 
-// How many pairs a text has, or where it breaks.
+// How many pairs a text has, or where it breaks. Another loop than `Reader::pairs_end`: that one stops before whatever ends
+// the pairs of a line, and this one has to come to the end of its text.
 fn count_pairs(pairs: &[u8]) -> Result<usize, ListingFault>
     ensures { result ≡ tallied 0 (values 0 pairs.now) }
 {
     // By chunks of three a space at the end, with no pair after it, would need a test of its own.
     let mut at = 0;
     loop {
-        let Some(_) = pair(&pairs[at..]) else {
+        let Some(_) = read_pair(&pairs[at..]) else {
             return Err(ListingFault::after(1, at));
         };
         match pairs.get(at + 2) {
-            None => return Ok(at / 3 + 1),
-            Some(b' ') => at += 3,
+            None => return Ok(at / PAIR + 1),
+            Some(b' ') => at += PAIR,
             Some(_) => return Err(ListingFault::after(1, at + 2)),
         }
     }
 }
 
 // Writes the values of pairs, as many as the buffer holds. Each pair but the last has a space after it, so the next one
-// begins three bytes on.
+// begins three bytes on. By `zip` with `chunks(3)` nothing was proved of what the buffer holds afterwards.
 fn copy_values(pairs: &[u8], into: &mut [u8])
     requires { length into.old ≡ length (good (values 0 pairs.now)) }
     ensures { into.new ≡ good (values 0 pairs.now) }
 {
     for (i, byte) in into.iter_mut().enumerate() {
-        if let Some(value) = pair(&pairs[3 * i..]) {
-            *byte = value;
-        }
+        let Some(value) = read_pair(&pairs[PAIR * i..]) else {
+            unreachable!()
+        };
+        *byte = value;
     }
 }
 

@@ -8,14 +8,11 @@ ghost use Rattle.listing.specs.PlanFrames.{plan_text};
 ghost use Rattle.listing.specs.Sheets.{Room, Wrote};
 ghost use Rattle.listing.specs.Writing.{line_text};
 
-use crate::sheet::Sheet;
+use crate::sheet::{PAIR, Sheet};
 use crate::writer::{Frame, put_line};
 use least::step::Step;
 use port::build::{LONGEST_BUILT, build};
 use port::instruction::{Instruction, Operation};
-
-// A pair, with the space or the 0Ah after it.
-const PAIR: usize = 3;
 
 // The line of write enable, which is one code.
 const ENABLE_LINE: usize = PAIR;
@@ -48,7 +45,7 @@ fn put_frame(operation: Operation, address: usize, data: &[u8], sheet: &mut Shee
     let Ok(n) = build(operation, address, data, &mut frame) else {
         unreachable!()
     };
-    put_bytes(&frame[0..n], sheet);
+    put_bytes(&frame[..n], sheet);
 }
 
 // A step that can be listed, with the data that it points into.

@@ -6,10 +6,11 @@ ghost use Rattle.listing.specs.Parts.{spot, part_of, spot_of, spots_of};
 ghost use Rattle.listing.specs.Scan.{scan, inside, pairs, closing, at_mark, refused, Sized, size_of, spots_by};
 ghost use Rattle.listing.specs.Promise.{Next};
 
-use crate::bytes::{goes_on, line_end, pair};
+use crate::bytes::{goes_on, line_end, read_pair};
 use crate::extent::Extent;
 use crate::fault::ListingFault;
 use crate::item::{Item, Line, Placed};
+use crate::sheet::COUNT;
 
 // The least number of bytes that a line may want back.
 const LEAST_COUNT: u8 = 1;
@@ -50,7 +51,7 @@ impl<'a> Reader<'a> {
         Ok(Extent::Note(end))
     }
 
-    // Where the pairs at the start of the rest end.
+    // Where the pairs at the start of the rest end: any text may follow, as a line goes on after its frame.
     fn pairs_end(&self) -> Result<usize, ListingFault>
         ensures { MatchResult result
             (λ e. (pairs 0 self.now.rest.now ≡ closing e (drop e self.now.rest.now)) × (2 ≤ e) × (e ≤ length self.now.rest.now))
@@ -60,7 +61,7 @@ impl<'a> Reader<'a> {
         // `at` is also the place that is told, so an iterator would have to count beside it.
         let mut at = 0;
         loop {
-            let Some(_) = pair(&rest[at..]) else {
+            let Some(_) = read_pair(&rest[at..]) else {
                 return Err(self.stuck(at));
             };
             at += 2;
@@ -81,7 +82,7 @@ impl<'a> Reader<'a> {
             return Err(self.stuck(gap));
         };
         let digits = gap + 1;
-        let Some(LEAST_COUNT..) = pair(&rest[digits..]) else {
+        let Some(LEAST_COUNT..) = read_pair(&rest[digits..]) else {
             return Err(self.stuck(digits));
         };
         let end = digits + 2;
@@ -132,15 +133,15 @@ impl<'a> Reader<'a> {
         let rest = self.rest;
         match extent {
             Extent::Note(end) => Line {
-                first: self.placed(Item::Note(&rest[0..end]), 1),
+                first: self.placed(Item::Note(&rest[..end]), 1),
                 count: None,
             },
             Extent::Frame(end) => Line {
-                first: self.placed(Item::Frame(&rest[0..end]), 1),
+                first: self.placed(Item::Frame(&rest[..end]), 1),
                 count: None,
             },
             Extent::Counted(end) => Line {
-                first: self.placed(Item::Frame(&rest[0..end - 5]), 1),
+                first: self.placed(Item::Frame(&rest[..end - COUNT]), 1),
                 count: Some(self.placed(Item::Count(&rest[end - 2..end]), end - 1)),
             },
         }

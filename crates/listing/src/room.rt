@@ -7,7 +7,7 @@ use crate::fault::ListingFault;
 use crate::plan_fault::PlanListingFault;
 
 // The buffer is shorter than what it has to hold, which can be longer than any buffer.
-#[derive(Clone, Copy)]
+#[derive(Clone, Copy, PartialEq, Eq, Debug)]
 pub(crate) struct TextShort {
     needed: u128,
 }

@@ -5,6 +5,12 @@ ghost use Rattle.listing.specs.Writing.{pair_text, spaced_text, back_text};
 
 use crate::hex::pair;
 
+// A pair, with the space or the 0Ah beside it.
+pub(crate) const PAIR: usize = 3;
+
+// ` > ` and a pair.
+pub(crate) const COUNT: usize = 5;
+
 // The buffer, and the length of the text at its start. There is no heap here: a lent buffer stands for a `Vec`.
 #[derive(Drop)]
 pub(crate) struct Sheet<'a> {
@@ -69,5 +75,5 @@ pub(crate) fn spaced_len(bytes: &[u8]) -> u128
     ensures most { result < 2 ^ 66 }
     ensures bytes { (i : ℕ) → slice_index bytes.now i < 256 }
 {
-    3 * bytes.len() as u128
+    PAIR as u128 * bytes.len() as u128
 }

@@ -6,11 +6,12 @@ ghost use Rattle.listing.specs.Writing.{line_text, exchange_of, ReadsAlone, Read
 
 use crate::fault::ListingFault;
 use crate::room::check_room;
-use crate::sheet::{Sheet, spaced_len};
+use crate::sheet::{COUNT, PAIR, Sheet, spaced_len};
 
-// A frame to be listed: its bytes, at least one, and how many bytes are wanted back. For 0 the line has no count: an
-// Option would say none in two ways.
-#[derive(Clone, Copy)]
+// A frame to be listed: its bytes, at least one, and how many bytes are wanted back. For 0 the line has no count.
+// `back` is no `Option<NonZeroU8>`: wanting nothing is no other kind of frame, and a chip, an exchange of the theorems and
+// the line's length all take it as a number of bytes.
+#[derive(Clone, Copy, PartialEq, Eq, Debug)]
 pub struct Frame<'a> {
     pub code: u8,
     pub rest: &'a [u8],
@@ -23,8 +24,12 @@ impl Frame<'_> {
         ensures exact { result ≡ length (line_text (exchange_of self.now)) }
         ensures bytes { (i : ℕ) → slice_index self.now.rest.now i < 256 }
     {
-        let pairs = 3 + spaced_len(self.rest);
-        if self.back == 0 { pairs } else { pairs + 5 }
+        let pairs = PAIR as u128 + spaced_len(self.rest);
+        if self.back == 0 {
+            pairs
+        } else {
+            pairs + COUNT as u128
+        }
     }
 }
 

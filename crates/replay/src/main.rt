@@ -4,23 +4,22 @@
 mod play;
 mod show;
 
-use anyhow::Context;
 use listing::fault::ListingFault;
 use listing::reader::Reader;
-use memory::model::Model;
 use play::play;
 use port::bench::BenchChip;
 use std::alloc::{AllocError, Global};
 use std::io::{Read, Write};
+use trials::chip::blank_chip;
+use trials::trial::OPEN;
 
 // What is read of the standard input.
 const MOST: u64 = 65536;
 
-// The bench chip of this program: each program chooses its own.
+// The bench chip of this program: each program chooses its own. This is the smallest, so its image takes the least memory.
 const CAPACITY: u8 = 0x0B;
 
-const STATUS: u8 = 0x80;
-
+// So many polls find a cycle still at work: a listing can show the busy bit, and need not ask long.
 const BUSY: usize = 2;
 
 // Plays the frames up to the first malformed line, and says where that is: 12 is its number in docs/refusals.md, by hand
@@ -51,11 +50,7 @@ fn main(rt: HostRuntime) -> anyhow::Result<()> {
     let heap = rt.alloc();
     let mut text = Vec::new(heap);
     rt.stdin().take(MOST).read_to_end(&mut text)?;
-    let model = Model::find(CAPACITY).context("no chip has this capacity byte")?;
-    let image = vec![in heap; 0xFF; model.geometry.size()]?;
-    let mut chip = BenchChip::new(CAPACITY, image, STATUS, BUSY)
-        .ok()
-        .context("the bench chip cannot be made")?;
+    let mut chip = blank_chip(heap, CAPACITY, OPEN, BUSY)?;
     let mut out = String::new(heap);
     replay(heap, &text, &mut chip, &mut out)?;
     rt.stdout().write_all(out.as_bytes())?;

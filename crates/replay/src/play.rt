@@ -6,6 +6,7 @@ ghost use Rattle.replay.specs.Playable.{Playable};
 ghost use Rattle.replay.specs.Shown.{line_of};
 
 use crate::show::Shown;
+use listing::bytes::read_pair;
 use listing::item::{Item, Line, Placed};
 use listing::pairs::read_pairs;
 use memory::report::Reported;
@@ -17,12 +18,9 @@ const MOST_BACK: usize = u8::MAX as usize;
 
 // How many bytes a count asks for; none without one.
 fn wanted(count: Option<Placed>) -> u8 {
-    let mut value = [0];
-    if let Some(count) = count {
-        // The reader takes one pair for a count, so this is not refused: if it were, the value would stay 0.
-        let _ = read_pairs(count.item.text(), &mut value);
-    }
-    value[0]
+    count
+        .and_then(|count| read_pair(count.item.text()))
+        .unwrap_or(0)
 }
 
 // Sends a frame, and writes what comes back as a line: the bytes, `-` for none, or `E10` where the frame is too long.
@@ -37,14 +35,8 @@ fn play_frame(
     ensures out { OnOk result (string_bytes out.new ≡ string_bytes out.old ++ line_of (length sent.now + length back.old) back.new) }
 {
     match chip.transfer(sent, back) {
-        Ok(()) => {
-            let shown = Shown(back);
-            writeln!(out, "{shown}")
-        }
-        Err(fault) => {
-            let number = fault.report().cause as usize;
-            writeln!(out, "E{number}")
-        }
+        Ok(()) => writeln!(out, "{}", Shown(back)),
+        Err(fault) => writeln!(out, "E{}", fault.report().cause as usize),
     }
 }
 
@@ -65,7 +57,7 @@ pub(crate) fn play(
         unreachable!()
     };
     let mut bytes = [0u8; MOST_BACK];
-    let count = wanted(line.count) as usize;
+    let count = usize::from(wanted(line.count));
     // the buffers are lent, so that a line allocates nothing
-    play_frame(chip, &room[0..n], &mut bytes[0..count], out)
+    play_frame(chip, &room[..n], &mut bytes[..count], out)
 }

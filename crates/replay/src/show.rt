@@ -7,7 +7,7 @@ use std::fmt;
 
 // Shows its bytes as pairs with single spaces, or `-` for none. `Spaced` has a space before each, so the first stands
 // by itself.
-#[derive(Clone, Copy)]
+#[derive(Clone, Copy, PartialEq, Eq, Debug)]
 pub(crate) struct Shown<'a>(pub(crate) &'a [u8]);
 
 impl fmt::Display for Shown<'_> {
@@ -17,9 +17,9 @@ impl fmt::Display for Shown<'_> {
         match self.0 {
             [] => write!(f, "-"),
             [first, others @ ..] => {
+                // a value of its own, of which the proof knows that it is below 256
                 let first = *first;
-                let others = Spaced(others);
-                write!(f, "{first:02X}{others}")
+                write!(f, "{first:02X}{}", Spaced(others))
             }
         }
     }
