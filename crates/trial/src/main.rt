@@ -12,13 +12,14 @@ use least::cost::Cost;
 use least::step::Step;
 use part::limit::MOST_POLLS;
 use part::part::Part;
-use part::plain::PlainImage;
 use planner::fault::PlanFault;
 use planner::plan::plan;
 use planner::run::run;
 use planner::run_fault::RunFault;
 use port::bench::BenchChip;
-use std::alloc::{AllocError, Global};
+use std::alloc::Global;
+use trials::chip::ChipFault;
+use trials::plain::plain_image;
 use trials::trial::Trial;
 use writes::{BYTES, PAGES, SECTORS, trials};
 
@@ -29,11 +30,17 @@ const BUSY: usize = 2;
 
 const ROOM: usize = 64;
 
-// What came of a write: the answer of planning, how many cycles of a plan were sent, the steps and data, and the bytes then.
+// What a plan costs, and what came of its run.
+#[derive(Clone, Copy, PartialEq, Eq, Debug)]
+struct Ran {
+    cost: Cost,
+    sent: Result<usize, RunFault>,
+}
+
+// What came of a write: the answer of planning, with the run of a plan; the steps and data, and the bytes then.
 #[derive(PartialEq, Eq, Debug, Drop)]
 struct Outcome {
-    answer: Result<Cost, PlanFault>,
-    sent: Option<usize>,
+    answer: Result<Ran, PlanFault>,
     steps: Vec<Step>,
     data: Vec<u8>,
     image: Vec<u8>,
@@ -50,23 +57,25 @@ fn cycles_sent(ran: Result<usize, RunFault>) -> usize
     }
 }
 
-fn attempt<P: Part>(heap: Global, part: &mut P, trial: &Trial) -> Result<Outcome, AllocError> {
+fn attempt<P: Part>(heap: Global, part: &mut P, trial: &Trial) -> anyhow::Result<Outcome> {
     let mut steps = vec![in heap; Step::UNUSED; ROOM]?;
     let mut data = vec![in heap; 0; BYTES]?;
     let mut image = vec![in heap; 0; BYTES]?;
-    let answer = plan(part, trial.address, &trial.bytes, &mut steps, &mut data);
-    let sent = match answer {
-        Ok((cycles, bytes)) => {
+    let answer = match plan(part, trial.address, &trial.bytes, &mut steps, &mut data) {
+        Ok(cost) => {
+            let (cycles, bytes) = cost;
             steps.truncate(cycles);
             data.truncate(bytes);
-            Some(cycles_sent(run(part, &steps, &data, MOST_POLLS)))
+            let sent = run(part, &steps, &data, MOST_POLLS);
+            Ok(Ran { cost, sent })
         }
-        Err(_) => None,
+        Err(fault) => Err(fault),
     };
-    let _ = part.read(0, &mut image);
+    part.read(0, &mut image)
+        .ok()
+        .context("the part is not read")?;
     Ok(Outcome {
         answer,
-        sent,
         steps,
         data,
         image,
@@ -84,20 +93,18 @@ fn is_written(trial: &Trial, image: &[u8]) -> bool {
 }
 
 fn over_plain(heap: Global, trial: &Trial) -> anyhow::Result<Outcome> {
-    let mut part = PlainImage::new(SECTORS, PAGES, trial.status, trial.image.clone()?)
-        .ok()
-        .context("the plain image cannot be made")?;
-    Ok(attempt(heap, &mut part, trial)?)
+    let mut part = plain_image(SECTORS, PAGES, trial.status, trial.image.clone()?)?;
+    attempt(heap, &mut part, trial)
 }
 
 fn over_chip(heap: Global, trial: &Trial) -> anyhow::Result<Outcome> {
-    let chip = BenchChip::new(CAPACITY, trial.image.clone()?, trial.status, BUSY)
-        .ok()
-        .context("the chip cannot be made")?;
+    let chip = BenchChip::new(CAPACITY, trial.image.clone()?, trial.status, BUSY).map_err(
+        ChipFault::from,
+    )?;
     let mut part = attach(chip, MOST_POLLS)
         .ok()
         .context("the driver does not attach")?;
-    Ok(attempt(heap, &mut part, trial)?)
+    attempt(heap, &mut part, trial)
 }
 
 fn show(
@@ -109,10 +116,10 @@ fn show(
 ) -> anyhow::Result<()> {
     let address = trial.address;
     let n = trial.bytes.len();
-    let answer = plain.answer;
+    let answer = plain.answer.map(|ran| ran.cost);
     let written = is_written(trial, &plain.image);
     // nothing is sent of a write that is not planned
-    let sent = plain.sent.unwrap_or(0);
+    let sent = plain.answer.map_or(0, |ran| cycles_sent(ran.sent));
     println!(rt;
         "{number}: {n} bytes at {address}: {answer:?}, {sent} cycles sent, written {written}, both alike {same}"
     )?;

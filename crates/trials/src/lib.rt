@@ -1,6 +1,8 @@
-// Writes to try on a memory, chips of the bench to try them on, and numbers to pick them by.
+// Writes to try on a memory, chips of the bench and plain images to try them on, and numbers to pick them by.
 #![tactic(auto)]
 
 pub mod chip;
 pub mod picker;
+pub mod plain;
+pub mod stretch;
 pub mod trial;

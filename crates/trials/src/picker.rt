@@ -1,7 +1,8 @@
 // Numbers that look picked at random, and are the same at each run.
 ghost use Rattle.std.specs.Prelude.{◌≡◌, ◌+◌, ◌*◌, ◌/◌, ◌%◌, max};
 
-// A row of numbers, by the last of them.
+// A linear congruential sequence: its modulus, 2 to the 31st, is a constant, and so are the factor and what is added.
+// The last number is all of its state.
 #[derive(Drop)]
 pub struct Picker {
     last: usize,

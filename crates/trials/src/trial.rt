@@ -1,10 +1,13 @@
 // A write to try, and the memory that it is tried on.
-ghost use Rattle.std.specs.Prelude.{◌≡◌, ◌+◌, ◌-◌, ◌++◌, length, take, drop, min, replicate, IfOk};
+ghost use Rattle.std.specs.Prelude.{◌≡◌, replicate, IfOk};
 
 use std::alloc::{AllocError, Global};
 
 // The status byte of a memory in which nothing is protected.
 pub const OPEN: u8 = 0x80;
+
+// The status byte of a memory in which the highest sector is protected.
+pub const TOP_PROTECTED: u8 = 0x84;
 
 // A status byte, what the memory holds, and the write.
 #[derive(PartialEq, Eq, Debug, Drop)]
@@ -33,13 +36,4 @@ impl Trial {
             bytes: vec![in heap; 0xFF; length]?,
         })
     }
-}
-
-// Writes a value over so many bytes from a place on, as far as there are any.
-pub fn fill_range(bytes: &mut [u8], from: usize, count: usize, value: u8)
-    ensures { bytes.new ≡ take from bytes.old ++ (replicate (min count (length bytes.old - from)) value ++ drop (from + count) bytes.old) }
-{
-    let from = from.min(bytes.len());
-    let count = count.min(bytes.len() - from);
-    bytes[from..from + count].fill(value);
 }

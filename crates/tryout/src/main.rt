@@ -9,16 +9,13 @@ use memory::geometry::Geometry;
 use memory::kind::Kind;
 use part::fault::PartFault;
 use part::part::Part;
-use part::size::geometry_of;
 use port::bench::BenchChip;
 use port::bus::{Bus, Side};
 use trials::chip::blank_chip;
+use trials::trial::TOP_PROTECTED;
 
-// Every chip, the small one first: the table that `Model::find` reads has another order.
+// Every chip, the small one first: what is printed has this order.
 const CAPACITIES: [u8; 4] = [0x0B, 0x16, 0x17, 0x18];
-
-// The highest sector is protected.
-const STATUS: u8 = 0x84;
 
 // The bench chips of this program: each program chooses its own.
 const BUSY: usize = 2;
@@ -61,7 +58,7 @@ fn look(rt: &HostRuntime, part: &mut Driver<Board>, address: usize) -> anyhow::R
 
 // Four bytes from place 62 come round to places 0 and 1.
 fn exercise(rt: &HostRuntime, part: &mut Driver<Board>) -> anyhow::Result<()> {
-    let geometry = geometry_of(part);
+    let geometry = part.geometry();
     let Geometry { sectors, pages } = geometry;
     println!(rt; "  {sectors} sectors of {pages} pages")?;
     let size = geometry.size();
@@ -85,8 +82,8 @@ fn exercise(rt: &HostRuntime, part: &mut Driver<Board>) -> anyhow::Result<()> {
 
 fn attach_and_try(rt: &HostRuntime, capacity: u8, side: Side) -> anyhow::Result<()> {
     println!(rt; "chip {capacity:02X} on side {side:?}")?;
-    let chip = blank_chip(rt.alloc(), capacity, STATUS, BUSY)?;
-    let other = blank_chip(rt.alloc(), 0x0B, STATUS, BUSY)?;
+    let chip = blank_chip(rt.alloc(), capacity, TOP_PROTECTED, BUSY)?;
+    let other = blank_chip(rt.alloc(), 0x0B, TOP_PROTECTED, BUSY)?;
     let board = match side {
         Side::First => Bus::new(chip, other, side),
         Side::Second => Bus::new(other, chip, side),
@@ -99,8 +96,9 @@ fn attach_and_try(rt: &HostRuntime, capacity: u8, side: Side) -> anyhow::Result<
 
 fn main(rt: HostRuntime) -> anyhow::Result<()> {
     for capacity in CAPACITIES {
-        attach_and_try(&rt, capacity, Side::First)?;
-        attach_and_try(&rt, capacity, Side::Second)?;
+        for side in [Side::First, Side::Second] {
+            attach_and_try(&rt, capacity, side)?;
+        }
     }
     Ok(())
 }
