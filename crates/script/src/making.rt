@@ -10,22 +10,22 @@ use crate::fault::Fault;
 use part::size::is_inside;
 use port::bench::BenchChip;
 use std::alloc::Global;
-use trials::chip;
-
-// A chip that holds FFh everywhere. It is made once here, so that what is wrong with it is told on its line.
-pub(crate) fn blank_chip(heap: Global, capacity: u8, status: u8, busy: usize) -> Result<Chip, Fault>
-    ensures { IfOk result (λ c. (c.capacity ≡ capacity) × (c.status ≡ status) × (c.busy ≡ busy) × (c.image.items ≡ replicate (size (shape_for capacity)) 255)) }
-{
-    let made = chip::blank_chip(heap, capacity, status, busy)?;
-    Ok(Chip {
-        capacity,
-        status,
-        busy,
-        image: made.into_image(),
-    })
-}
+use trials::chip::blank_chip;
 
 impl Chip {
+    // A chip that holds FFh everywhere. It is made once here, so that what is wrong with it is told on its line.
+    pub(crate) fn blank(heap: Global, capacity: u8, status: u8, busy: usize) -> Result<Chip, Fault>
+        ensures { IfOk result (λ c. (c.capacity ≡ capacity) × (c.status ≡ status) × (c.busy ≡ busy) × (c.image.items ≡ replicate (size (shape_for capacity)) 255)) }
+    {
+        let made = blank_chip(heap, capacity, status, busy)?;
+        Ok(Chip {
+            capacity,
+            status,
+            busy,
+            image: made.into_image(),
+        })
+    }
+
     // Lays bytes over the image, where they lie inside it.
     pub(crate) fn lay(&mut self, address: usize, bytes: &[u8]) -> Result<(), Fault>
         ensures inside { is_ok result ≡ nat_le (address + length bytes.now) (vec_len self.old.image) }

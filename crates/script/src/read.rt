@@ -26,7 +26,7 @@ fn take_line(heap: Global, reading: &mut Reading, line: &str) -> Result<(), Faul
 }
 
 fn read_lines(heap: Global, text: &str) -> Result<Script, ScriptFault>
-    ensures { IfErr result (λ e. 0 < e.line) }
+    ensures { IfErr result (λ e. (0 < e.line) × (e.line ≤ 1 + length text.now)) }
 {
     let mut reading = Reading::new(heap);
     for (number, line) in (1..).zip(text.lines()) {
@@ -40,7 +40,7 @@ fn read_lines(heap: Global, text: &str) -> Result<Script, ScriptFault>
 pub fn read_script(heap: Global, text: &[u8]) -> Result<Script, ScriptFault>
     ensures long { 1048576 < length text.now → IsErrAnd result (λ e. e.fault ≡ Long) }
     ensures text { OnOk result (IsUtf8 text.now) }
-    ensures line { IfErr result (λ e. 0 < e.line) }
+    ensures line { IfErr result (λ e. (0 < e.line) × (e.line ≤ 1 + length text.now)) }
 {
     if text.len() > MOST_TEXT {
         return Err(Fault::Long.on(line_at(text, MOST_TEXT)));

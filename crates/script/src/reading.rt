@@ -3,9 +3,9 @@ ghost use Rattle.std.specs.Prelude.{◌≡◌, ◌+◌, ◌≤◌, true, sum_by}
 ghost use Rattle.script.specs.Limits.{bytes_of, is_short};
 
 use crate::bytes::{MOST, bytes};
+use crate::chip::Chip;
 use crate::command::Command;
 use crate::fault::Fault;
-use crate::making::blank_chip;
 use crate::numbers::{byte, decimal};
 use crate::script::{Room, Script};
 use calls::call::Call;
@@ -87,7 +87,7 @@ impl Begun {
     fn new(heap: Global, command: Command, arguments: &[&str]) -> Result<Begun, Fault> {
         match (command, arguments) {
             (Command::Chip, [capacity, status, busy]) => {
-                let chip = blank_chip(heap, byte(capacity)?, byte(status)?, decimal(busy)?)?;
+                let chip = Chip::blank(heap, byte(capacity)?, byte(status)?, decimal(busy)?)?;
                 Ok(Begun {
                     heap,
                     script: Script {

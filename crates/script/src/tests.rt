@@ -71,10 +71,7 @@ fn a_limit_is_for_the_writes_that_follow(rt: HostRuntime) -> Result<(), Fail> {
     let script = read_script(
         rt.alloc(),
         b"chip 0b 80 2\nlimit 3\nwrite 60 3*0a Ff\nlimit 4\nopen 1\n",
-    );
-    let Ok(script) = script else {
-        return Err(Fail::new("the script is faulty"));
-    };
+    )?;
     assert_eq!(rt; script.calls.len(), 2);
     let Some(
         Call::Write {

@@ -37,7 +37,7 @@ fn count_blank(bytes: &[u8]) -> usize {
 }
 
 // Sends the frame of an operation that has no data.
-fn send(
+fn send_frame(
     chip: &mut BenchChip,
     operation: Operation,
     address: usize,
@@ -52,7 +52,7 @@ fn send(
 fn read_chunk(chip: &mut BenchChip, start: usize) -> Result<usize, PortFault> {
     let mut bytes = [0u8; CHUNK];
     let back = &mut bytes[0..BYTES.saturating_sub(start).min(CHUNK)];
-    send(chip, Operation::Read, start, back)?;
+    send_frame(chip, Operation::Read, start, back)?;
     Ok(count_blank(back))
 }
 
@@ -66,8 +66,8 @@ fn sweep(chip: &mut BenchChip) -> Result<usize, PortFault> {
 }
 
 fn erased(chip: &mut BenchChip) -> Result<usize, PortFault> {
-    send(chip, Operation::WriteEnable, 0, &mut [])?;
-    send(chip, Operation::BulkErase, 0, &mut [])?;
+    send_frame(chip, Operation::WriteEnable, 0, &mut [])?;
+    send_frame(chip, Operation::BulkErase, 0, &mut [])?;
     sweep(chip)
 }
 
