@@ -1,5 +1,5 @@
 -- The frames of steps, and their text.
-use Rattle.std.proofs.Common.{◌≡◌, ℕ, zero, suc, ◌+◌, ◌*◌, ◌<◌, ◌≤◌, Bool, true, false, cond, List, [], ◌∷◌, ◌++◌, length, get_or, take, drop, Some, None, Ok, Err, Option, sym, refl, ap, ◌∙◌, subst, ap₂, arith, lit≤, length-append, length-take}
+use Rattle.std.proofs.Common.{◌≡◌, ℕ, zero, suc, ◌+◌, ◌*◌, ◌<◌, ◌≤◌, Bool, true, false, cond, List, [], ◌∷◌, ◌++◌, length, get_or, take, drop, Some, None, Option, sym, refl, ap, ◌∙◌, subst, ap₂, arith, lit≤, length-append, length-take}
 use Rattle.std.proofs.Math.Nat.{suc-ne-zero}
 use Rattle.std.proofs.lemmas.List.{append-nil, map-append, drop_more, take_more, take-append-drop}
 use Rattle.std.proofs.lemmas.Bool.{and_parts, leb-true, ltb-true}
@@ -18,7 +18,7 @@ use Rattle.least.specs.declared.step.Step.{Step}
 use Rattle.least.specs.Steps.{step_cycle, cycles_of, sent_by}
 use Rattle.listing.specs.declared.plan_fault.PlanListingFault.{PlanListingFault}
 use Rattle.listing.specs.Parts.{exchange}
-use Rattle.listing.specs.PlanFault.{lies, filled, unlisted, or_else, first_unlisted, checked}
+use Rattle.listing.specs.PlanFault.{lies, filled, unlisted, or_else, first_unlisted}
 use Rattle.listing.specs.PlanFrames.{enabling, sending, plan_frames, plan_text}
 use Rattle.listing.specs.declared.sheet.Sheet.{Sheet}
 use Rattle.listing.specs.Sheets.{Room, Wrote}
@@ -103,18 +103,9 @@ unlisted_at sent [] i d e h = absurd (omega arith)
 unlisted_at sent (s ∷ steps) zero d e h = (or_none _ _ e).0
 unlisted_at sent (s ∷ steps) (suc i) d e h = unlisted_at sent steps i d (or_none (unlisted sent s) _ e).1 (omega arith)
 
-pub first_here : (sent : List ℕ) (steps : List Step) (i : ℕ) (d : Step) (f : PlanListingFault) → i < length steps → unlisted sent (get_or steps i d) ≡ Some f
-    → first_unlisted sent (drop i steps) ≡ Some f
-first_here sent steps i d f h e = ap (first_unlisted sent) (drop_more steps i d h) ∙ ap (λ o. or_else o (first_unlisted sent (drop (i + 1) steps))) e
-
--- what the check of a step, or of the steps, says
-pub checked_some : (o : Option PlanListingFault) (f : PlanListingFault) → Err f ≡ checked o → o ≡ Some f
-checked_some None f e = absurd (suc-ne-zero 0 cc)
-checked_some (Some g) f e = let h : g ≡ f = cc in ap (λ x. Some x) h
-
-pub checked_none : (o : Option PlanListingFault) → Ok tt ≡ checked o → o ≡ None
-checked_none None e = refl
-checked_none (Some g) e = absurd (suc-ne-zero 0 cc)
+pub first_on : (sent : List ℕ) (steps : List Step) (i : ℕ) (d : Step) → i < length steps → unlisted sent (get_or steps i d) ≡ None
+    → first_unlisted sent (drop i steps) ≡ first_unlisted sent (drop (i + 1) steps)
+first_on sent steps i d h e = ap (first_unlisted sent) (drop_more steps i d h) ∙ ap (λ o. or_else o (first_unlisted sent (drop (i + 1) steps))) e
 
 -- a line of bytes and nothing wanted back
 pub line-bytes : (w : List ℕ) → 0 < length w → length (line_text (exchange w 0)) ≡ 3 * length w

@@ -48,7 +48,7 @@ abbrev pub first_unlisted : List ℕ → List Step → Option PlanListingFault
 first_unlisted sent [] = None
 first_unlisted sent (s ∷ steps) = or_else (unlisted sent s) (first_unlisted sent steps)
 
--- a refusal, if there is one, as the check of the steps gives it
+-- a refusal, if there is one, as the check of a step gives it
 abbrev pub checked : Option PlanListingFault → Result Unit PlanListingFault
 checked None = Ok tt
 checked (Some f) = Err f

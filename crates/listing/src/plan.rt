@@ -6,7 +6,6 @@ ghost use Rattle.listing.specs.Playing.{HasEffect};
 ghost use Rattle.listing.specs.Writing.{AllReadBack};
 
 use crate::plan_fault::PlanListingFault;
-use crate::plan_refusal::check_steps;
 use crate::plan_text::{put_steps, text_len};
 use crate::room::check_room;
 use crate::sheet::Sheet;
@@ -22,8 +21,7 @@ pub fn list_plan(steps: &[Step], data: &[u8], into: &mut [u8]) -> Result<usize, 
     ensures reads { AllReadBack (plan_frames (cycles_of «data».now steps.now)) }
     ensures effect { HasEffect (cycles_of «data».now steps.now) }
 {
-    check_steps(steps, data)?;
-    let needed = text_len(steps, data);
+    let needed = text_len(steps, data)?;
     check_room(needed, into)?;
     let mut sheet = Sheet::new(into);
     put_steps(steps, data, &mut sheet);

@@ -1,6 +1,6 @@
 // Which steps of a plan can be listed.
 ghost use Rattle.std.specs.Prelude.{◌≡◌, length};
-ghost use Rattle.listing.specs.PlanFault.{addressed, filled, lies, unlisted, first_unlisted, checked};
+ghost use Rattle.listing.specs.PlanFault.{addressed, filled, lies, unlisted, checked};
 
 use crate::plan_fault::PlanListingFault;
 use least::step::Step;
@@ -32,7 +32,7 @@ fn is_filled(step: &Step, data: &[u8]) -> bool
 }
 
 // Refuses a step that is not listed.
-fn check_step(step: &Step, data: &[u8]) -> Result<(), PlanListingFault>
+pub(crate) fn check_step(step: &Step, data: &[u8]) -> Result<(), PlanListingFault>
     ensures { result ≡ checked (unlisted «data».now step.now) }
 {
     if !is_addressed(step) {
@@ -44,16 +44,6 @@ fn check_step(step: &Step, data: &[u8]) -> Result<(), PlanListingFault>
         return Err(PlanListingFault::PageData {
             length: step.length,
         });
-    }
-    Ok(())
-}
-
-// Refuses at the first step that is not listed.
-pub(crate) fn check_steps(steps: &[Step], data: &[u8]) -> Result<(), PlanListingFault>
-    ensures { result ≡ checked (first_unlisted «data».now steps.now) }
-{
-    for step in steps {
-        check_step(step, data)?;
     }
     Ok(())
 }

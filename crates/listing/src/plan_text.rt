@@ -1,5 +1,5 @@
 // The text of a plan: for each step the line of write enable, and the line of its cycle's frame.
-ghost use Rattle.std.specs.Prelude.{◌≡◌, ◌<◌, ◌≤◌, [], ◌∷◌, length, None};
+ghost use Rattle.std.specs.Prelude.{◌≡◌, ◌<◌, ◌≤◌, [], ◌∷◌, length, Some, None, MatchResult};
 ghost use Rattle.port.specs.Build.{built};
 ghost use Rattle.least.specs.Steps.{step_cycle, sent_by};
 ghost use Rattle.listing.specs.Parts.{exchange};
@@ -8,6 +8,8 @@ ghost use Rattle.listing.specs.PlanFrames.{plan_text};
 ghost use Rattle.listing.specs.Sheets.{Room, Wrote};
 ghost use Rattle.listing.specs.Writing.{line_text};
 
+use crate::plan_fault::PlanListingFault;
+use crate::plan_refusal::check_step;
 use crate::sheet::{PAIR, Sheet};
 use crate::writer::{Frame, put_line};
 use least::step::Step;
@@ -57,6 +59,16 @@ struct Listed<'a> {
 }
 
 impl<'a> Listed<'a> {
+    // Refuses a step that is not listed.
+    fn new(step: &'a Step, data: &'a [u8]) -> Result<Listed<'a>, PlanListingFault>
+        ensures { MatchResult result
+            (λ l. (l.step.now ≡ step.now) × (l.«data».now ≡ «data».now))
+            (λ f. unlisted «data».now step.now ≡ Some f) }
+    {
+        check_step(step, data)?;
+        Ok(Listed { step, data })
+    }
+
     // The data that the step sends: none for an erase.
     fn sent(&self) -> &'a [u8]
         ensures { result.now ≡ sent_by (step_cycle self.now.«data».now self.now.step.now) }
@@ -89,20 +101,21 @@ impl<'a> Listed<'a> {
     }
 }
 
-// The length of the text of a plan. It can be longer than any buffer.
-pub(crate) fn text_len(steps: &[Step], data: &[u8]) -> u128
-    requires { first_unlisted «data».now steps.now ≡ None }
-    ensures { result ≡ length (plan_text «data».now steps.now) }
+// The length of the text of a plan, which can be longer than any buffer. Refused at the first step that is not listed.
+pub(crate) fn text_len(steps: &[Step], data: &[u8]) -> Result<u128, PlanListingFault>
+    ensures { MatchResult result
+        (λ n. (first_unlisted «data».now steps.now ≡ None) × (n ≡ length (plan_text «data».now steps.now)))
+        (λ f. first_unlisted «data».now steps.now ≡ Some f) }
 {
-    // By `map` and `sum` it was not proved that each call has a step that is listed, nor what the sum is.
+    // By `map` and `sum` it was not proved what the sum is.
     let mut needed: u128 = 0;
     for step in steps {
-        needed += Listed { step, data }.len() as u128;
+        needed += Listed::new(step, data)?.len() as u128;
     }
-    needed
+    Ok(needed)
 }
 
-// Writes the text of a plan.
+// Writes the text of a plan. Its steps were checked when it was measured: there is no heap to keep what that made.
 pub(crate) fn put_steps(steps: &[Step], data: &[u8], sheet: &mut Sheet)
     requires listable { first_unlisted «data».now steps.now ≡ None }
     requires room { Room sheet.old (plan_text «data».now steps.now) }

@@ -3,17 +3,16 @@ use Rattle.least.specs.Steps.{cycles_of}
 use Rattle.listing.specs.PlanFault.{first_unlisted}
 use Rattle.listing.specs.PlanFrames.{plan_text, kept}
 use Rattle.listing.proofs.Laying.{laid_start, over-fits}
-use Rattle.listing.proofs.Planned.{checked_none}
 use Rattle.listing.proofs.Played.{has_effect}
 use Rattle.listing.proofs.Sendings.{plan-reads}
 use Rattle.listing.proofs.Sheets.{sheet_text}
 use Rattle.listing.proofs.plan.list_plan.Goals as goal
 
-pub returns-in_err-check_steps-clause-reads : goal.returns-in_err-check_steps-clause-reads
-returns-in_err-check_steps-clause-reads c = plan-reads c.args.data.now c.args.steps.now (λ i. omega (arith, c.type_inv.data i))
+pub returns-in_err-needed-clause-reads : goal.returns-in_err-needed-clause-reads
+returns-in_err-needed-clause-reads c = plan-reads c.args.data.now c.args.steps.now (λ i. omega (arith, c.type_inv.data i))
 
-pub returns-in_err-check_steps-clause-effect : goal.returns-in_err-check_steps-clause-effect
-returns-in_err-check_steps-clause-effect c = has_effect (cycles_of c.args.data.now c.args.steps.now)
+pub returns-in_err-needed-clause-effect : goal.returns-in_err-needed-clause-effect
+returns-in_err-needed-clause-effect c = has_effect (cycles_of c.args.data.now c.args.steps.now)
 
 pub returns-in_err-check_room-clause-reads : goal.returns-in_err-check_room-clause-reads
 returns-in_err-check_room-clause-reads c = plan-reads c.args.data.now c.args.steps.now (λ i. omega (arith, c.type_inv.data i))
@@ -26,7 +25,8 @@ returns-clause-buffer c =
     let d = c.args.data.now in
     let s = c.args.steps.now in
     let l = c.args.into.now in
-    let e = sym (checked_none (first_unlisted d s) c.in_ok-check_steps.ensures) in
+    let e = sym c.in_ok-needed.ensures.0 in
+    let k = c.in_ok-needed.ensures.1 in
     let h : length (plan_text d s) ≤ length l = omega arith in
     let t = sheet_text c.new-sheet.ensures.place c.new-sheet.ensures.buffer c.put_steps.ensures in
     let n = c.put_steps.ensures.same ∙ c.new-sheet.ensures.same in
