@@ -3,27 +3,14 @@
 use memory::model::{PAGE_BYTES, page_start};
 use std::alloc::{AllocError, Global};
 use trials::picker::Picker;
-use trials::trial::{Trial, fill_range};
-
-// One value over so many bytes from an address on.
-#[derive(Clone, Copy, PartialEq, Eq, Debug)]
-pub(crate) struct Stretch {
-    pub(crate) address: usize,
-    pub(crate) length: usize,
-    pub(crate) value: u8,
-}
-
-impl Stretch {
-    pub(crate) fn fill(self, bytes: &mut [u8]) {
-        fill_range(bytes, self.address, self.length, self.value);
-    }
-}
+use trials::stretch::Stretch;
+use trials::trial::{OPEN, TOP_PROTECTED, Trial};
 
 fn pick_status(picker: &mut Picker) -> u8 {
     match picker.pick(8) {
-        0 => 0x84,
+        0 => TOP_PROTECTED,
         1 => 0xA4,
-        _ => 0x80,
+        _ => OPEN,
     }
 }
 
@@ -50,6 +37,7 @@ fn pick_stretch(picker: &mut Picker, size: usize) -> Stretch {
     Stretch {
         address,
         length: length.min(size.saturating_sub(address)),
+        // halved, so that it is not FFh
         value: pick_value(picker) / 2,
     }
 }
@@ -61,10 +49,14 @@ pub(crate) fn make(heap: Global, size: usize, number: usize) -> Result<Trial, Al
     let mut image = vec![in heap; 0xFF; size]?;
     covered.fill(&mut image);
     for _ in 0..picker.pick(4) {
-        fill_range(&mut image, picker.pick(size), 1, 0);
+        if let Some(byte) = image.get_mut(picker.pick(size)) {
+            *byte = 0;
+        }
     }
     if picker.pick(4) > 0 {
-        fill_range(&mut image, size.saturating_sub(1), 1, 0);
+        if let Some(last) = image.last_mut() {
+            *last = 0;
+        }
     }
     let bytes = vec![in heap; pick_value(&mut picker); covered.length]?;
     Ok(Trial {

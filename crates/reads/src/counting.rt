@@ -18,7 +18,7 @@ use planner::plan::plan;
 #[derive(Drop)]
 pub struct Counting<P> {
     pub inner: P,
-    // up to the largest number
+    // a count that stays at the largest number once it is there: it saturates
     pub asked: usize,
 }
 

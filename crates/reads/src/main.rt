@@ -4,14 +4,15 @@
 mod adverse;
 mod counting;
 
-use adverse::{Stretch, make};
+use adverse::make;
 use anyhow::Context;
 use counting::{Asked, Counting, plan_counted};
 use least::step::Step;
 use memory::geometry::{Geometry, MOST_PAGES, MOST_SECTORS};
 use memory::model::PAGE_BYTES;
-use part::plain::PlainImage;
 use std::alloc::Global;
+use trials::plain::plain_image;
+use trials::stretch::Stretch;
 use trials::trial::{OPEN, Trial};
 
 const SECTOR: usize = MOST_PAGES * PAGE_BYTES;
@@ -31,9 +32,7 @@ fn ask(heap: Global, geometry: Geometry, trial: Trial) -> anyhow::Result<Asked> 
     } = trial;
     let mut steps = vec![in heap; Step::UNUSED; image.len() / PAGE_BYTES + 1]?;
     let mut data = vec![in heap; 0; image.len()]?;
-    let inner = PlainImage::new(geometry.sectors, geometry.pages, status, image)
-        .ok()
-        .context("the plain image cannot be made")?;
+    let inner = plain_image(geometry.sectors, geometry.pages, status, image)?;
     let mut part = Counting { inner, asked: 0 };
     Ok(plan_counted(&mut part, address, &bytes, &mut steps, &mut data))
 }
@@ -45,13 +44,93 @@ struct Held {
     but: Option<Stretch>,
 }
 
-impl Held {
-    const fn all(value: u8) -> Held {
-        Held { value, but: None }
-    }
+const USED: Held = Held {
+    value: 0x5A,
+    but: None,
+};
+
+const FRESH: Held = Held {
+    value: 0xFF,
+    but: None,
+};
+
+// Sixteen bytes of the sixth sector.
+const EDIT: Stretch = Stretch {
+    address: 5 * SECTOR + 1000,
+    length: 16,
+    value: 0xA5,
+};
+
+const ALL: Stretch = Stretch {
+    address: 0,
+    length: BYTES,
+    value: 0xA5,
+};
+
+// A memory, a write of it, and how they are named.
+#[derive(Clone, Copy, PartialEq, Eq, Debug)]
+struct Case {
+    what: &'static str,
+    held: Held,
+    write: Stretch,
 }
 
-fn show(rt: &HostRuntime, what: &str, held: Held, write: Stretch) -> anyhow::Result<()> {
+const CASES: [Case; 7] = [
+    Case {
+        what: "16 bytes in a used memory",
+        held: USED,
+        write: EDIT,
+    },
+    Case {
+        what: "16 bytes in a fresh memory",
+        held: FRESH,
+        write: EDIT,
+    },
+    Case {
+        what: "16 bytes over the end of a page",
+        held: USED,
+        write: Stretch {
+            address: 5 * SECTOR + 1016,
+            ..EDIT
+        },
+    },
+    Case {
+        what: "16 bytes back to FFh, the last in their sector",
+        held: Held {
+            but: Some(Stretch {
+                value: 0x5A,
+                ..EDIT
+            }),
+            ..FRESH
+        },
+        write: Stretch {
+            value: 0xFF,
+            ..EDIT
+        },
+    },
+    Case {
+        what: "a sector",
+        held: USED,
+        write: Stretch {
+            address: 5 * SECTOR,
+            length: SECTOR,
+            value: 0xA5,
+        },
+    },
+    Case {
+        what: "all",
+        held: USED,
+        write: ALL,
+    },
+    Case {
+        what: "all back to FFh",
+        held: USED,
+        write: Stretch { value: 0xFF, ..ALL },
+    },
+];
+
+fn show(rt: &HostRuntime, case: Case) -> anyhow::Result<()> {
+    let Case { what, held, write } = case;
     let heap = rt.alloc();
     let mut image = vec![in heap; held.value; BYTES]?;
     if let Some(stretch) = held.but {
@@ -102,55 +181,9 @@ fn show_worst(rt: &HostRuntime, geometry: Geometry) -> anyhow::Result<()> {
 }
 
 fn main(rt: HostRuntime) -> anyhow::Result<()> {
-    // sixteen bytes of the sixth sector
-    let edit = Stretch {
-        address: 5 * SECTOR + 1000,
-        length: 16,
-        value: 0xA5,
-    };
-    show(&rt, "16 bytes in a used memory", Held::all(0x5A), edit)?;
-    show(&rt, "16 bytes in a fresh memory", Held::all(0xFF), edit)?;
-    let over = Stretch {
-        address: 5 * SECTOR + 1016,
-        ..edit
-    };
-    show(
-        &rt,
-        "16 bytes over the end of a page",
-        Held::all(0x5A),
-        over,
-    )?;
-    let held = Held {
-        value: 0xFF,
-        but: Some(Stretch {
-            value: 0x5A,
-            ..edit
-        }),
-    };
-    let back = Stretch {
-        value: 0xFF,
-        ..edit
-    };
-    show(
-        &rt,
-        "16 bytes back to FFh, the last in their sector",
-        held,
-        back,
-    )?;
-    let sector = Stretch {
-        address: 5 * SECTOR,
-        length: SECTOR,
-        value: 0xA5,
-    };
-    show(&rt, "a sector", Held::all(0x5A), sector)?;
-    let all = Stretch {
-        address: 0,
-        length: BYTES,
-        value: 0xA5,
-    };
-    show(&rt, "all", Held::all(0x5A), all)?;
-    let all_back = Stretch { value: 0xFF, ..all };
-    show(&rt, "all back to FFh", Held::all(0x5A), all_back)?;
+    for case in CASES {
+        show(&rt, case)?;
+    }
     for sectors in 1..4 {
         for pages in [1, 4, 32] {
             show_worst(&rt, geometry(sectors, pages)?)?;

@@ -9,28 +9,26 @@ use memory::bytes::is_blank;
 use memory::geometry::{MOST_PAGES, MOST_SECTORS};
 use memory::model::PAGE_BYTES;
 use part::part::Part;
-use part::plain::PlainImage;
 use planner::plan::plan;
 use port::bench::BenchChip;
 use port::build::build;
 use port::fault::PortFault;
 use port::instruction::Operation;
 use port::port::Port;
+use trials::chip::ChipFault;
+use trials::plain::plain_image;
+use trials::trial::OPEN;
 
 // The bench chip of this program: each program chooses its own.
 const CAPACITY: u8 = 0x18;
 
 const BYTES: usize = MOST_SECTORS * MOST_PAGES * PAGE_BYTES;
 
-const STATUS: u8 = 0x80;
-
 // A code and an address.
 const HEAD: usize = 4;
 
 // What fits a frame of 320 bytes beside them.
 const CHUNK: usize = 320 - HEAD;
-
-const FRAMES: usize = BYTES / CHUNK + 1;
 
 fn count_blank(bytes: &[u8]) -> usize {
     bytes.iter().filter(|b| **b == 0xFF).count()
@@ -78,9 +76,7 @@ fn plan_all(rt: &HostRuntime) -> anyhow::Result<()> {
     let bytes = vec![in heap; 0xA5; BYTES]?;
     let mut steps = vec![in heap; Step::UNUSED; BYTES / PAGE_BYTES]?;
     let mut data = vec![in heap; 0; BYTES]?;
-    let mut part = PlainImage::new(MOST_SECTORS, MOST_PAGES, STATUS, image)
-        .ok()
-        .context("the plain image cannot be made")?;
+    let mut part = plain_image(MOST_SECTORS, MOST_PAGES, OPEN, image)?;
     let (cycles, sent) = plan(&mut part, 0, &bytes, &mut steps, &mut data)
         .ok()
         .context("the write is not planned")?;
@@ -91,11 +87,10 @@ fn plan_all(rt: &HostRuntime) -> anyhow::Result<()> {
 fn main(rt: HostRuntime) -> anyhow::Result<()> {
     // 00h everywhere, and no blank chip, so that the erase is seen
     let image = vec![in rt.alloc(); 0; BYTES]?;
-    let mut chip = BenchChip::new(CAPACITY, image, STATUS, 0)
-        .ok()
-        .context("the chip cannot be made")?;
+    let mut chip = BenchChip::new(CAPACITY, image, OPEN, 0).map_err(ChipFault::from)?;
     let blank = erased(&mut chip).ok().context("a frame was too long")?;
-    println!(rt; "{blank} bytes are FFh, read in {FRAMES} frames")?;
+    let frames = BYTES.div_ceil(CHUNK);
+    println!(rt; "{blank} bytes are FFh, read in {frames} frames")?;
     let mut bytes = vec![in rt.alloc(); 0; BYTES]?;
     let mut part = attach(chip, 1).ok().context("the driver does not attach")?;
     part.read(0, &mut bytes)
