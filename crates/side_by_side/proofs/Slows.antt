@@ -24,7 +24,7 @@ works : (b : Bool) (n : ℕ) → ◌≡◌ {A = ℕ} (cond b 1 0) 1 → cond b n
 works true n e = refl
 works false n e = absurd (omega (arith, e))
 
-pub slowly_same : (s : SlowImage) (q : PlainImage) → plainly q ≡ plainly s.plain → slowly (record { plain = q; left = s.left; number = s.number }) ≡ slowly s
+pub slowly_same : (s : SlowImage) (q : PlainImage) → plainly q ≡ plainly s.plain → slowly (record { plain = q; left = s.left; busy_number = s.busy_number }) ≡ slowly s
 slowly_same s q e =
     ap₂ (λ x y. due_in x y) (ap (λ (b : Bool). cond b (s.left + 1) 0) (same_busy q.busy s.plain.busy (ap (λ (m : Meaning). m.due) e))) e
 
@@ -43,9 +43,9 @@ played_one : (a b : Meaning) (y : Cycle) → plain.Played a (carried y ∷ []) b
 played_one a _ y (plain.cycle d t plain.none) = (d, t, refl)
 
 pub played_cycle : (s : SlowImage) (q : PlainImage) (y : Cycle) → plain.Played (plainly s.plain) (carried y ∷ []) (plainly q)
-    → Played s.number (slowly s) (carried y ∷ []) (slowly (record { plain = q; left = s.number; number = s.number }))
+    → Played s.busy_number (slowly s) (carried y ∷ []) (slowly (record { plain = q; left = s.busy_number; busy_number = s.busy_number }))
 played_cycle s q y p =
     let o = played_one (plainly s.plain) (plainly q) y p in
-    let due = works q.busy (s.number + 1) (ap (λ (m : Meaning). m.due) o.2) in
-    let e : due_in (cond q.busy (s.number + 1) 0) (plainly q) ≡ done s.number (slowly s) y = ap₂ (λ x y. due_in x y) due o.2 in
-    subst (λ (x : Meaning). Played s.number (slowly s) (carried y ∷ []) x) (sym e) (cycle (rests s.plain.busy (s.left + 1) o.0) o.1 none)
+    let due = works q.busy (s.busy_number + 1) (ap (λ (m : Meaning). m.due) o.2) in
+    let e : due_in (cond q.busy (s.busy_number + 1) 0) (plainly q) ≡ done s.busy_number (slowly s) y = ap₂ (λ x y. due_in x y) due o.2 in
+    subst (λ (x : Meaning). Played s.busy_number (slowly s) (carried y ∷ []) x) (sym e) (cycle (rests s.plain.busy (s.left + 1) o.0) o.1 none)

@@ -16,7 +16,7 @@ played-++ (poll p) q = poll (played-++ p q)
 
 -- what a slow image's trace says
 abbrev pub Slowed : SlowImage → SlowImage → List Event → Type 0
-Slowed a b l = Played a.number (slowly a) l (slowly b) × (b.number ≡ a.number)
+Slowed a b l = Played a.busy_number (slowly a) l (slowly b) × (b.busy_number ≡ a.busy_number)
 
 pub slowed-++ : (a b c : SlowImage) (l m : List Event) → Slowed a b l → Slowed b c m → Slowed a c (l ++ m)
 slowed-++ a b c l m p q =

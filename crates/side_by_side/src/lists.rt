@@ -1,4 +1,5 @@
 // Lists of calls to a memory, picked at random.
+use crate::outcome::Lent;
 use calls::call::Call;
 use least::step::Step;
 use memory::geometry::Geometry;
@@ -16,8 +17,7 @@ const BYTES: usize = 2048;
 #[derive(Drop)]
 pub(crate) struct List {
     pub(crate) calls: Vec<Call>,
-    pub(crate) steps: Vec<Step>,
-    pub(crate) data: Vec<u8>,
+    pub(crate) lent: Lent,
 }
 
 // Picks calls to a memory that is divided so. Of the limits of polls those that are valid begin at `least`.
@@ -131,8 +131,10 @@ impl Caller {
         }
         Ok(List {
             calls,
-            steps: vec![in heap; Step::UNUSED; steps]?,
-            data: vec![in heap; 0; bytes]?,
+            lent: Lent {
+                steps: vec![in heap; Step::UNUSED; steps]?,
+                data: vec![in heap; 0; bytes]?,
+            },
         })
     }
 }

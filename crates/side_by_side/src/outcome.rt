@@ -1,20 +1,20 @@
 // What came of a round on one side, and where two sides differ.
 use calls::call::{Answer, Entry};
 use least::step::Step;
-use memory::report::{Layer, Reported};
+use memory::report::{Cause, Layer, Reported};
 use std::alloc::{AllocError, Global};
 
-// The buffers that were lent for a list of calls, as they were left.
-#[derive(PartialEq, Drop)]
+// The buffers that are lent for a list of calls.
+#[derive(PartialEq, Eq, Debug, Drop)]
 pub(crate) struct Lent {
     pub(crate) steps: Vec<Step>,
     pub(crate) data: Vec<u8>,
 }
 
-#[derive(PartialEq, Drop)]
+#[derive(PartialEq, Eq, Debug, Drop)]
 pub(crate) struct Outcome {
     pub(crate) record: Vec<Entry>,
-    // for each list of calls
+    // as each list of calls left them
     pub(crate) lent: Vec<Lent>,
     pub(crate) image: Vec<u8>,
 }
@@ -30,12 +30,12 @@ impl Outcome {
             .count()
     }
 
-    // How many are refused by this layer with this number.
-    pub(crate) fn count_refused(&self, layer: Layer, number: usize) -> usize {
+    // How many are refused by this layer for this cause.
+    pub(crate) fn count_refused(&self, layer: Layer, cause: Cause) -> usize {
         self.count(|answer| match answer {
             Answer::Refused(refusal) => {
                 let report = refusal.report();
-                report.layer == layer && report.number == number
+                report.layer == layer && report.cause == cause
             }
             _ => false,
         })
@@ -49,6 +49,9 @@ pub(crate) fn differences(
     chip: &Outcome,
 ) -> Result<Vec<String>, AllocError> {
     let mut lines = Vec::new(heap);
+    if image.record.len() != chip.record.len() || image.lent.len() != chip.lent.len() {
+        lines.push(format!(in heap; "the number of calls")?)?;
+    }
     for (number, (a, b)) in image.record.iter().zip(&chip.record).enumerate() {
         if a != b {
             lines.push(format!(in heap; "call {number}: {a:?}, and on the chip {b:?}")?)?;

@@ -1,23 +1,34 @@
 // The rounds: which memories, and how many calls are made to them.
-use crate::lists::{Caller, List};
-use crate::outcome::{Lent, Outcome, differences};
+use crate::lists::Caller;
+use crate::outcome::{Outcome, differences};
 use crate::side::{Made, Side};
 use crate::slow::SlowImage;
 use anyhow::Context;
 use calls::call::Answer;
 use memory::geometry::Geometry;
 use memory::model::Model;
-use memory::report::Layer;
+use memory::report::{Cause, Layer};
 use part::plain::PlainImage;
 use port::bench::BenchChip;
 use std::alloc::Global;
 use trials::picker::Picker;
+use trials::plain::plain_image;
+use trials::trial::{OPEN, TOP_PROTECTED};
 
 // How many calls a list has.
 const CALLS: usize = 25;
 
-// Refusals have lower numbers.
-const NUMBERS: usize = 15;
+// Causes for which such calls are refused.
+const CAUSES: [Cause; 8] = [
+    Cause::Outside,
+    Cause::PageData,
+    Cause::Busy,
+    Cause::Protected,
+    Cause::NotBlank,
+    Cause::StepsShort,
+    Cause::DataShort,
+    Cause::Limit,
+];
 
 // What the chip is compared with.
 #[derive(Clone, Copy, Debug)]
@@ -32,49 +43,43 @@ pub(crate) struct Round {
     capacity: u8,
     status: u8,
     // how many polls show busy after a cycle
-    number: usize,
-    // the least limit of polls that is picked
-    least: usize,
+    busy_number: usize,
     lists: usize,
-}
-
-// No limit is picked that is not enough: after a cycle a plain image is busy for one poll only.
-fn plain(capacity: u8, status: u8, number: usize, lists: usize) -> Round {
-    Round {
-        beside: Beside::PlainImage,
-        capacity,
-        status,
-        number,
-        least: number.saturating_add(1),
-        lists,
-    }
-}
-
-fn slow(capacity: u8, status: u8, number: usize, lists: usize) -> Round {
-    Round {
-        beside: Beside::SlowImage,
-        capacity,
-        status,
-        number,
-        least: 1,
-        lists,
-    }
 }
 
 pub(crate) fn rounds() -> [Round; 8] {
     [
-        plain(0x0B, 0x80, 0, 20),
-        plain(0x0B, 0x84, 0, 20),
-        plain(0x0B, 0xA8, 0, 20),
-        plain(0x0B, 0xC0, 0, 4),
-        plain(0x0B, 0x80, 9, 20),
-        slow(0x0B, 0x80, 3, 20),
-        slow(0x0B, 0x8C, 2, 20),
-        plain(0x16, 0x84, 0, 2),
+        Round::new(Beside::PlainImage, 0x0B, OPEN, 0, 20),
+        Round::new(Beside::PlainImage, 0x0B, TOP_PROTECTED, 0, 20),
+        Round::new(Beside::PlainImage, 0x0B, 0xA8, 0, 20),
+        Round::new(Beside::PlainImage, 0x0B, 0xC0, 0, 4),
+        Round::new(Beside::PlainImage, 0x0B, OPEN, 9, 20),
+        Round::new(Beside::SlowImage, 0x0B, OPEN, 3, 20),
+        Round::new(Beside::SlowImage, 0x0B, 0x8C, 2, 20),
+        Round::new(Beside::PlainImage, 0x16, TOP_PROTECTED, 0, 2),
     ]
 }
 
 impl Round {
+    fn new(beside: Beside, capacity: u8, status: u8, busy_number: usize, lists: usize) -> Round {
+        Round {
+            beside,
+            capacity,
+            status,
+            busy_number,
+            lists,
+        }
+    }
+
+    // The least limit of polls that is picked. After a cycle a plain image is busy for one poll only, so beside it none is picked
+    // that is not enough for the chip.
+    fn least(&self) -> usize {
+        match self.beside {
+            Beside::PlainImage => self.busy_number.saturating_add(1),
+            Beside::SlowImage => 1,
+        }
+    }
+
     fn geometry(&self) -> anyhow::Result<Geometry> {
         let model = Model::find(self.capacity).context("no chip has this capacity byte")?;
         Ok(model.geometry)
@@ -82,21 +87,19 @@ impl Round {
 
     fn plain_image(&self, bytes: Vec<u8>) -> anyhow::Result<PlainImage> {
         let Geometry { sectors, pages } = self.geometry()?;
-        PlainImage::new(sectors, pages, self.status, bytes)
-            .ok()
-            .context("the plain image cannot be made")
+        Ok(plain_image(sectors, pages, self.status, bytes)?)
     }
 
     fn slow_image(&self, bytes: Vec<u8>) -> anyhow::Result<SlowImage> {
         Ok(SlowImage {
             plain: self.plain_image(bytes)?,
             left: 0,
-            number: self.number,
+            busy_number: self.busy_number,
         })
     }
 
     fn chip(&self, bytes: Vec<u8>) -> anyhow::Result<BenchChip> {
-        BenchChip::new(self.capacity, bytes, self.status, self.number)
+        BenchChip::new(self.capacity, bytes, self.status, self.busy_number)
             .ok()
             .context("the chip cannot be made")
     }
@@ -113,21 +116,17 @@ impl Round {
         let mut caller = Caller {
             picker: Picker::new(seed),
             geometry: self.geometry()?,
-            least: self.least,
+            least: self.least(),
         };
         let mut side = make(caller.image(heap)?)?;
         let mut record = Vec::new(heap);
         let mut lent = Vec::new(heap);
         for _ in 0..self.lists {
-            let List {
-                calls,
-                mut steps,
-                mut data,
-            } = caller.list(heap, CALLS)?;
-            let mut made = side.make(heap, calls, &mut steps, &mut data)?;
+            let mut list = caller.list(heap, CALLS)?;
+            let mut made = side.make(heap, list.calls, &mut list.lent.steps, &mut list.lent.data)?;
             side = made.side;
             record.append(&mut made.record)?;
-            lent.push(Lent { steps, data })?;
+            lent.push(list.lent)?;
         }
         Ok(Outcome {
             record,
@@ -158,8 +157,7 @@ impl Round {
             beside,
             capacity,
             status,
-            number,
-            least: _,
+            busy_number,
             lists: _,
         } = self;
         let calls = outcome.record.len();
@@ -167,14 +165,13 @@ impl Round {
         let written = outcome.count(|answer| matches!(answer, Answer::Written(_)));
         let abandoned = outcome.count(|answer| matches!(answer, Answer::Abandoned(_)));
         print!(rt;
-            "{beside:?}, chip {capacity:02X}h, status {status:02X}h, busy number {number}: {calls} calls, {done} done, {written} written, {abandoned} abandoned, refused"
+            "{beside:?}, chip {capacity:02X}h, status {status:02X}h, busy number {busy_number}: {calls} calls, {done} done, {written} written, {abandoned} abandoned, refused"
         )?;
         for layer in [Layer::Caller, Layer::Part] {
-            for number in 1..NUMBERS {
-                let count = outcome.count_refused(layer, number);
+            for cause in CAUSES {
+                let count = outcome.count_refused(layer, cause);
                 if count > 0 {
-                    let layer = layer as usize;
-                    print!(rt; " {count} by {layer} {number},")?;
+                    print!(rt; " {count} by {} {},", layer as usize, cause as usize)?;
                 }
             }
         }

@@ -1,7 +1,7 @@
 // The memories that the same calls are made to.
 use crate::slow::SlowImage;
-use anyhow::{Context, ensure};
-use attached::perform::perform_attached;
+use anyhow::{Context, anyhow, ensure};
+use attached::perform::{Unplayed, perform_attached};
 use calls::call::{Call, Entry};
 use calls::perform::{Performed, perform};
 use least::step::Step;
@@ -19,6 +19,7 @@ pub(crate) struct Made<S> {
     pub(crate) side: S,
 }
 
+// The two images pass their calls on alike: one impl for every part would overlap with the chip's.
 pub(crate) trait Side {
     // Makes the calls to a new fence over it, once nothing is due.
     fn make(
@@ -93,8 +94,17 @@ impl Side for BenchChip {
     ) -> anyhow::Result<Made<BenchChip>> {
         let Performed { record, fence } = perform_attached(
             heap, self, MOST_POLLS, calls, steps, data,
-        ).ok()
-            .context("the driver does not attach, or no memory is left")?;
+        ).map_err(|unplayed| match unplayed {
+            Unplayed::Unattached {
+                fault: _,
+                port: _,
+                calls: _,
+            } => anyhow!("the driver does not attach"),
+            Unplayed::NoMemory {
+                driver: _,
+                calls: _,
+            } => anyhow!("no memory is left"),
+        })?;
         Ok(Made {
             record,
             side: fence.release().release(),

@@ -4,8 +4,8 @@ use part::plain::PlainImage;
 #[derive(Drop)]
 pub struct SlowImage {
     pub plain: PlainImage,
-    // while it is busy: how many polls will still show it
+    // how many polls will still show it busy, as long as it is
     pub left: usize,
     // what a cycle sets `left` to
-    pub number: usize,
+    pub busy_number: usize,
 }

@@ -4,6 +4,7 @@ ghost use Rattle.side_by_side.specs.Slowly.{none, slowly};
 ghost use Rattle.side_by_side.specs.Slowing.{Slowed, slow-sound, slowed-++};
 
 use crate::slow::SlowImage;
+use memory::geometry::Geometry;
 use memory::kind::Kind;
 use part::fault::PartFault;
 use part::part::Part;
@@ -22,12 +23,8 @@ impl Part for SlowImage {
 
     ghost joins = { slowed-++ };
 
-    fn sectors(&self) -> usize {
-        self.plain.sectors()
-    }
-
-    fn pages(&self) -> usize {
-        self.plain.pages()
+    fn geometry(&self) -> Geometry {
+        self.plain.geometry()
     }
 
     fn is_busy(&self) -> bool {
@@ -44,7 +41,7 @@ impl Part for SlowImage {
 
     fn cycle(&mut self, kind: Kind, address: usize, data: &[u8]) -> Result<(), PartFault> {
         self.plain.cycle(kind, address, data)?;
-        self.left = self.number;
+        self.left = self.busy_number;
         Ok(())
     }
 
