@@ -34,9 +34,12 @@ impl FromStr for Command {
 }
 
 // How a line with the command is written.
-impl fmt::Display for Command {
+#[derive(Clone, Copy, PartialEq, Eq, Debug)]
+pub(crate) struct Usage(pub(crate) Command);
+
+impl fmt::Display for Usage {
     fn fmt<W: fmt::Write>(&self, f: &mut fmt::Formatter<W>) -> fmt::Result {
-        f.write_str(match self {
+        f.write_str(match self.0 {
             Command::Chip => "chip CAPACITY STATUS BUSY",
             Command::Image => "image ADDRESS BYTES",
             Command::Room => "room STEPS DATA",

@@ -4,7 +4,7 @@ ghost use Rattle.script.specs.Faults.{unmade};
 ghost use Rattle.script.specs.declared.fault.Fault.TheVariants.{NoMemory};
 
 use crate::bytes::MOST;
-use crate::command::Command;
+use crate::command::{Command, Usage};
 use crate::read::MOST_TEXT;
 use crate::reading::{MOST_ALL, MOST_STEPS};
 use port::fault::Making;
@@ -37,7 +37,7 @@ pub enum Fault {
     #[error("unknown command")]
     Unknown,
     // too few words for the command, or too many
-    #[error("write it as: {0}")]
+    #[error("write it as: {}", Usage(*.0))]
     Words(Command),
     #[error("a number is decimal digits")]
     Number,

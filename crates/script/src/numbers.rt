@@ -13,7 +13,7 @@ fn are_digits(word: &[u8]) -> bool
     word.iter().all(|b| b.is_ascii_digit())
 }
 
-// The number that decimal digits write.
+// The number that decimal digits write. They are looked at first, since `parse` takes a `+` before them.
 pub(crate) fn decimal(word: &str) -> Result<usize, Fault>
     ensures { result ≡ decimal_of word.now }
 {

@@ -9,20 +9,22 @@ use crate::fault::Fault;
 use crate::numbers::{byte, decimal};
 use crate::script::{Room, Script};
 use calls::call::Call;
+use memory::geometry::{MOST_PAGES, MOST_SECTORS};
+use memory::model::PAGE_BYTES;
 use part::limit::MOST_POLLS;
 use std::alloc::Global;
 
-// What there is room for where a script does not say.
+// What there is room for where a script does not say: the data of 1,024 whole pages, and half as many steps.
 const ROOM: Room = Room {
     steps: 512,
-    bytes: 65536,
+    bytes: 1024 * PAGE_BYTES,
 };
 
-// The most steps that there can be room for.
-pub(crate) const MOST_STEPS: usize = 1048576;
+// The most steps that there can be room for: four for each page of the largest chip.
+pub(crate) const MOST_STEPS: usize = 4 * MOST_SECTORS * MOST_PAGES;
 
-// The bytes of all reads and writes together.
-pub(crate) const MOST_ALL: usize = 268435456;
+// The most bytes of all reads and writes together: sixteen times those of the largest chip.
+pub(crate) const MOST_ALL: usize = 16 * MOST;
 
 // How many bytes a call has.
 fn bytes_of(call: &Call) -> usize

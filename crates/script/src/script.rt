@@ -6,7 +6,8 @@ ghost use Rattle.script.specs.Limits.{bytes_of, is_short};
 use crate::chip::Chip;
 use calls::call::Call;
 
-// The lengths of the step list and of the data buffer: no more than the largest chip needs.
+// The lengths of the step list and of the data buffer. The largest chip has 262,144 pages and 16,777,216 bytes: there is
+// room for at most four steps a page and for all of the bytes.
 #[derive(Clone, Copy, PartialEq, Eq, Debug)]
 pub struct Room {
     pub steps: usize,
@@ -16,7 +17,7 @@ pub struct Room {
 }
 
 // It is known that each call has no more bytes than the largest chip, and how many all of them have at most.
-#[derive(Drop)]
+#[derive(PartialEq, Eq, Debug, Drop)]
 pub struct Script {
     pub chip: Chip,
     pub room: Room,

@@ -2,7 +2,6 @@
 use crate::read::read_script;
 use calls::call::Call;
 use std::alloc::Global;
-use std::process::Abort;
 use std::test::Fail;
 
 // The message of a faulty script.
@@ -13,57 +12,36 @@ fn message(heap: Global, text: &[u8]) -> Result<String, Fail> {
     }
 }
 
-fn says(rt: &impl Abort, heap: Global, text: &[u8], wanted: &str) -> Result<(), Fail> {
-    assert_eq!(rt; message(heap, text)?.as_str(), wanted);
-    Ok(())
-}
+// Faulty scripts, and their messages.
+const FAULTY: [(&[u8], &str); 8] = [
+    (b"", "line 1: the first command has to be chip"),
+    (b"# no chip\n\n", "line 2: the first command has to be chip"),
+    (b"close 1\n", "line 1: the first command has to be chip"),
+    (b"chip 0C 80 2\n", "line 1: no chip has this capacity byte"),
+    (
+        b"chip 0B 80 2\n\nread 0 # no length\n",
+        "line 3: write it as: read ADDRESS LENGTH",
+    ),
+    (
+        b"chip 0B 80 2\nwrite 0 1\n",
+        "line 2: a byte is two hexadecimal digits",
+    ),
+    (
+        b"chip 0B 80 2\nread 0 +1\n",
+        "line 2: a number is decimal digits",
+    ),
+    (
+        b"chip 0B 80 2\nimage 2047 00 00\n",
+        "line 2: the bytes end past the end of the chip",
+    ),
+];
 
 #[test]
 fn faulty_scripts_name_their_line(rt: HostRuntime) -> Result<(), Fail> {
-    let heap = rt.alloc();
-    says(&rt, heap, b"", "line 1: the first command has to be chip")?;
-    says(
-        &rt,
-        heap,
-        b"# no chip\n\n",
-        "line 2: the first command has to be chip",
-    )?;
-    says(
-        &rt,
-        heap,
-        b"close 1\n",
-        "line 1: the first command has to be chip",
-    )?;
-    says(
-        &rt,
-        heap,
-        b"chip 0C 80 2\n",
-        "line 1: no chip has this capacity byte",
-    )?;
-    says(
-        &rt,
-        heap,
-        b"chip 0B 80 2\n\nread 0 # no length\n",
-        "line 3: write it as: read ADDRESS LENGTH",
-    )?;
-    says(
-        &rt,
-        heap,
-        b"chip 0B 80 2\nwrite 0 1\n",
-        "line 2: a byte is two hexadecimal digits",
-    )?;
-    says(
-        &rt,
-        heap,
-        b"chip 0B 80 2\nread 0 +1\n",
-        "line 2: a number is decimal digits",
-    )?;
-    says(
-        &rt,
-        heap,
-        b"chip 0B 80 2\nimage 2047 00 00\n",
-        "line 2: the bytes end past the end of the chip",
-    )
+    for (text, wanted) in FAULTY {
+        assert_eq!(rt; message(rt.alloc(), text)?.as_str(), wanted);
+    }
+    Ok(())
 }
 
 #[test]
