@@ -147,7 +147,8 @@ impl<'a> Reader<'a> {
         }
     }
 
-    // The items of the next line; none at the end of the text. Refused, the reader stays where it was.
+    // The items of the next line; none at the end of the text. Refused, the reader stays where it was. (One enum tells all that is
+    // refused of a listing, so a caller meets `TextShort` here too: the contract says that it is never answered.)
     pub fn next_line(&mut self) -> Result<Option<Line<'a>>, ListingFault>
         ensures { Next self.old.line self.new.line self.old.rest.now self.new.rest.now result }
     {

@@ -7,7 +7,7 @@ use crate::part::Part;
 use memory::kind::Kind;
 pub use memory::range::is_inside;
 
-// How many bytes the part has.
+// How many bytes the part has. No method of the trait: no part has another way to say it.
 pub fn size_of<P: Part>(part: &P) -> usize
     ensures { result ≡ size (P.Part.meaning part.now).shape }
 {

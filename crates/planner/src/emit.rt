@@ -1,4 +1,5 @@
-// The cycles of a choice put on a sheet.
+// The cycles of a choice put on a sheet. Part, write and sheet stay three parameters: each function says of each of them what it
+// leaves, which a struct of the three would have to say again.
 ghost use Rattle.std.specs.Prelude.{◌≡◌, ◌+◌, ◌*◌, ◌<◌, if◌then◌else◌};
 ghost use Rattle.memory.specs.declared.kind.Kind.TheVariants.{Program, Alter};
 ghost use Rattle.least.specs.Plan.{lowers};

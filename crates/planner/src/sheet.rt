@@ -70,7 +70,7 @@ impl<'a> Sheet<'a> {
         self.byte_count = end;
     }
 
-    // An erase, which has no data.
+    // An erase, which has no data. (Its step is stored as a page's is: a function for both would need a clause for each field.)
     pub(crate) fn put_erase(&mut self, kind: Kind, address: usize)
         requires { address_of (cycle_of kind address []) ≡ address }
         ensures { Sent ⊤ (cycle_of kind address [] ∷ []) self.old self.new }

@@ -13,7 +13,7 @@ use std::fmt;
 use thiserror::Error;
 use trials::chip::ChipFault;
 
-// Why the chip of a script cannot be made, in words.
+// Why the chip of a script cannot be made, in a script's words: another crate's enum can be given no `Display` here.
 #[derive(Clone, Copy, PartialEq, Eq, Debug)]
 struct Reason(Making);
 
