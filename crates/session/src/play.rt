@@ -27,7 +27,7 @@ pub(crate) fn play(heap: Global, script: Script) -> anyhow::Result<String> {
         } => unreachable!(),
     })?;
     let mut out = String::new(heap);
-    for entry in record.iter() {
+    for entry in &record {
         let line = Shown(entry);
         write!(out, "{line}")?;
     }
