@@ -8,7 +8,7 @@ use adverse::make;
 use anyhow::Context;
 use counting::{Asked, Counting, plan_counted};
 use least::step::Step;
-use memory::geometry::{Geometry, MOST_PAGES, MOST_SECTORS};
+use memory::geometry::{Geometry, MOST_BYTES, MOST_PAGES, MOST_SECTORS};
 use memory::model::PAGE_BYTES;
 use std::alloc::Global;
 use trials::plain::plain_image;
@@ -17,7 +17,7 @@ use trials::trial::{OPEN, Trial};
 
 const SECTOR: usize = MOST_PAGES * PAGE_BYTES;
 
-const BYTES: usize = MOST_SECTORS * SECTOR;
+const BYTES: usize = MOST_BYTES;
 
 // Writes tried on each small memory.
 const TRIED: usize = 4000;

@@ -3,13 +3,12 @@ ghost use Rattle.std.specs.Prelude.{◌≤◌, IfOk, vec_len};
 
 use crate::fault::Fault;
 use crate::numbers::{byte, decimal};
-use memory::geometry::{MOST_PAGES, MOST_SECTORS};
-use memory::model::PAGE_BYTES;
+use memory::geometry::MOST_BYTES;
 use std::alloc::Global;
 use std::str::FromStr;
 
 // The bytes of the largest chip.
-pub(crate) const MOST: usize = MOST_SECTORS * MOST_PAGES * PAGE_BYTES;
+pub(crate) const MOST: usize = MOST_BYTES;
 
 // A byte, so many times.
 #[derive(Clone, Copy, PartialEq, Eq, Debug)]

@@ -6,7 +6,7 @@ use anyhow::Context;
 use driver::attach::attach;
 use least::step::Step;
 use memory::bytes::is_blank;
-use memory::geometry::{MOST_PAGES, MOST_SECTORS};
+use memory::geometry::{MOST_BYTES, MOST_PAGES, MOST_SECTORS};
 use memory::model::PAGE_BYTES;
 use part::part::Part;
 use planner::plan::plan;
@@ -22,7 +22,7 @@ use trials::trial::OPEN;
 // The bench chip of this program: each program chooses its own.
 const CAPACITY: u8 = 0x18;
 
-const BYTES: usize = MOST_SECTORS * MOST_PAGES * PAGE_BYTES;
+const BYTES: usize = MOST_BYTES;
 
 // A code and an address.
 const HEAD: usize = 4;

@@ -57,20 +57,26 @@ fn cycles_sent(ran: Result<usize, RunFault>) -> usize
     }
 }
 
+// Leaves the plan alone in both lists.
+fn plan_and_run<P: Part>(
+    part: &mut P,
+    trial: &Trial,
+    steps: &mut Vec<Step>,
+    data: &mut Vec<u8>,
+) -> Result<Ran, PlanFault> {
+    let cost = plan(part, trial.address, &trial.bytes, steps, data)?;
+    let (cycles, bytes) = cost;
+    steps.truncate(cycles);
+    data.truncate(bytes);
+    let sent = run(part, steps, data, MOST_POLLS);
+    Ok(Ran { cost, sent })
+}
+
 fn attempt<P: Part>(heap: Global, part: &mut P, trial: &Trial) -> anyhow::Result<Outcome> {
     let mut steps = vec![in heap; Step::UNUSED; ROOM]?;
     let mut data = vec![in heap; 0; BYTES]?;
     let mut image = vec![in heap; 0; BYTES]?;
-    let answer = match plan(part, trial.address, &trial.bytes, &mut steps, &mut data) {
-        Ok(cost) => {
-            let (cycles, bytes) = cost;
-            steps.truncate(cycles);
-            data.truncate(bytes);
-            let sent = run(part, &steps, &data, MOST_POLLS);
-            Ok(Ran { cost, sent })
-        }
-        Err(fault) => Err(fault),
-    };
+    let answer = plan_and_run(part, trial, &mut steps, &mut data);
     part.read(0, &mut image)
         .ok()
         .context("the part is not read")?;
