@@ -35,6 +35,15 @@ pub enum Cause {
     TextShort = 14,
 }
 
+impl Cause {
+    // As it is told.
+    pub fn number(self) -> usize
+        ensures { result ≡ cause_number self }
+    {
+        self as usize
+    }
+}
+
 #[derive(Clone, Copy, PartialEq, Eq, Debug)]
 pub enum Values {
     One(usize),
@@ -86,7 +95,7 @@ impl fmt::Display for Report {
 
     fn fmt<W: fmt::Write>(&self, f: &mut fmt::Formatter<W>) -> fmt::Result {
         let layer = self.layer as usize;
-        let number = self.cause as usize;
+        let number = self.cause.number();
         match self.values {
             Values::One(a) => write!(f, "{layer} {number} {a}"),
             Values::Two(a, b) => write!(f, "{layer} {number} {a} {b}"),

@@ -36,7 +36,7 @@ fn play_frame(
 {
     match chip.transfer(sent, back) {
         Ok(()) => writeln!(out, "{}", Shown(back)),
-        Err(fault) => writeln!(out, "E{}", fault.report().cause as usize),
+        Err(fault) => writeln!(out, "E{}", fault.report().cause.number()),
     }
 }
 

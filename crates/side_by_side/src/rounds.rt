@@ -171,7 +171,7 @@ impl Round {
             for cause in CAUSES {
                 let count = outcome.count_refused(layer, cause);
                 if count > 0 {
-                    print!(rt; " {count} by {} {},", layer as usize, cause as usize)?;
+                    print!(rt; " {count} by {} {},", layer as usize, cause.number())?;
                 }
             }
         }
