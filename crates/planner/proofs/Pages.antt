@@ -1,10 +1,8 @@
 -- Loops over the bytes of a page.
-use Rattle.std.proofs.Common.{◌≡◌, ℕ, zero, suc, ◌+◌, ◌-◌, ◌%◌, ◌<◌, ◌≤◌, min, Bool, ◌&&◌, eqb, List, [], ◌∷◌, ◌++◌, length, get_or, take, drop, sym, refl, ap, ◌∙◌, ⊎_elim, add-zero, add-one, ap₂, arith, length-append, length-drop, length-take, get_or-drop, get_or-take, ext_get_or}
-use native.Mathlib.Nat.{mod-eq-sub-mod}
-use Rattle.std.proofs.lemmas.Bool.{cases_lt}
+use Rattle.std.proofs.Common.{◌≡◌, ℕ, zero, suc, ◌+◌, ◌%◌, ◌<◌, ◌≤◌, Bool, ◌&&◌, eqb, List, [], ◌∷◌, ◌++◌, length, get_or, take, drop, sym, refl, ap, ◌∙◌, add-zero, add-one, ap₂, arith}
 use lib.Bits.{bit_and}
 use lib.Seq.{sets, sets-eq}
-use Rattle.std.proofs.lemmas.List.{append_assoc, drop-drop, get_or_append_left, get_or-append_right}
+use Rattle.std.proofs.lemmas.List.{append_assoc, drop-drop}
 use Rattle.std.specs.List.{list_all, zip}
 use Rattle.memory.specs.Image.{rolled}
 use Rattle.least.specs.Plan.{lowers, bytes_from}
