@@ -3,9 +3,12 @@
 
 mod play;
 mod show;
+#[cfg(test)]
+mod tests;
 
 use listing::fault::ListingFault;
 use listing::reader::Reader;
+use memory::report::Cause;
 use play::play;
 use port::bench::BenchChip;
 use std::alloc::{AllocError, Global};
@@ -22,8 +25,7 @@ const CAPACITY: u8 = 0x0B;
 // So many polls find a cycle still at work: a listing can show the busy bit, and need not ask long.
 const BUSY: usize = 2;
 
-// Plays the frames up to the first malformed line, and says where that is: 12 is its number in docs/refusals.md, by hand
-// since a `ListingFault` is not `Reported`.
+// Plays the frames up to the first malformed line, and says where that is.
 fn replay(
     heap: Global,
     text: &[u8],
@@ -39,7 +41,7 @@ fn replay(
             Ok(Some(line)) => play(chip, line, &mut room, out)?,
             Ok(None) => return Ok(()),
             Err(ListingFault::Malformed { line, column }) => {
-                return writeln!(out, "E12 {line} {column}");
+                return writeln!(out, "E{} {line} {column}", Cause::Malformed.number());
             }
             Err(ListingFault::TextShort { needed: _ }) => unreachable!(),
         }
