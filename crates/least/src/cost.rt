@@ -11,7 +11,7 @@ pub const NOTHING: Cost = (0, 0);
 
 pub const ERASE: Cost = (1, 0);
 
-// Whether `a` costs no more than `b`.
+// Whether `a` costs no more than `b`. It is `<=` of pairs, by the name that the theorems have for it.
 pub fn at_most(a: Cost, b: Cost) -> bool
     ensures { result ≡ fewest.leq a b }
 {

@@ -126,6 +126,7 @@ impl Caller {
             _ => BYTES,
         };
         let mut calls = Vec::new(heap);
+        // not a chain: what cannot be allocated ends it by `?`
         for _ in 0..count {
             calls.push(self.call(heap)?)?;
         }

@@ -57,6 +57,7 @@ fn read_chunk(chip: &mut BenchChip, start: usize) -> Result<usize, PortFault> {
 // How many of the chip's bytes are FFh.
 fn sweep(chip: &mut BenchChip) -> Result<usize, PortFault> {
     let mut blank: usize = 0;
+    // by the addresses, since the frames carry them
     for start in (0..BYTES).step_by(CHUNK) {
         blank = blank.saturating_add(read_chunk(chip, start)?);
     }
