@@ -19,9 +19,6 @@ impl<P: Port> Part for Driver<P> {
 
     ghost trace = { DriverTrace P.Port };
 
-    // What it remembers is true of the chip, by its type.
-    ghost intact = { λ _. Unit {0} };
-
     ghost sound = { λ s. seen-sound s.outline (P.Port.chip s.port) (P.Port.sound s.port).0 s.intact };
 
     ghost stays = { λ s. ([], P.Port.stays s.port, drives_none s.outline (P.Port.chip s.port)) };

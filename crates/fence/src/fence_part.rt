@@ -39,8 +39,6 @@ impl<P: Part> Part for Fence<P> {
     // What happened to the part below; the closed sectors stay.
     ghost trace = { λ f g l. (g.closed ≡ f.closed) × P.Part.trace f.part g.part l };
 
-    ghost intact = { λ f. P.Part.intact f.part };
-
     ghost sound = { λ s. fenced-sound (P.Part.meaning s.part) (P.Part.sound s.part) s.closed };
 
     ghost stays = { Prim.search rules };

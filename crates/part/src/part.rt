@@ -4,7 +4,7 @@ ghost use Rattle.memory.specs.Shape.{shaped};
 ghost use Rattle.memory.specs.Page.{block};
 ghost use Rattle.memory.specs.Cycle.{cycle_of, effect};
 ghost use Rattle.part.specs.Meaning.{Event, Meaning, Sound, asked, carried, polled, waited};
-ghost use Rattle.part.specs.Verdict.{idle, protection, read_verdict, told, verdict, verdict_if};
+ghost use Rattle.part.specs.Verdict.{idle, protection, read_verdict, told, verdict};
 
 use crate::fault::PartFault;
 use memory::geometry::Geometry;
@@ -13,14 +13,12 @@ use memory::kind::Kind;
 // What every part means: how it is divided, an image, the protected sectors, how many polls are due, and which events
 // led from one state of the part to another. A trace can only be shown by making the calls, in their order.
 //
-// A part may remember what it once learnt of a device. `intact` says that what it remembers is true of the
-// device: it holds of a part just made, and every call keeps it. What depends on it is promised under it.
+// A part may remember what it once learnt of a device. That what it remembers is true of the device is its own affair: a ghost
+// field of its struct says so of every value, and nothing here is promised under a condition on it.
 pub trait Part {
     ghost meaning: { Self → Meaning };
 
     ghost trace: { Self → Self → List Event → Type 0 };
-
-    ghost intact: { Self → Type 0 };
 
     // How it is divided.
     fn geometry(&self) -> Geometry
@@ -51,33 +49,27 @@ pub trait Part {
         ensures result { result ≡ told (read_verdict (meaning self.old) address (length into.old)) }
         ensures same { meaning self.new ≡ meaning self.old }
         ensures unread { is_ok result ≡ false → into.new ≡ into.old }
-        ensures bytes { intact self.old → is_ok result ≡ true → into.new ≡ block address (length into.old) (meaning self.old).image }
-        ensures trace { trace self.old self.new (if is_ok result then asked (length into.old) ∷ [] else []) }
-        ensures intact { intact self.old → intact self.new };
+        ensures bytes { is_ok result ≡ true → into.new ≡ block address (length into.old) (meaning self.old).image }
+        ensures trace { trace self.old self.new (if is_ok result then asked (length into.old) ∷ [] else []) };
 
     // Carries out a cycle, after which some polls are due, one at least. A refused cycle leaves all as it was. An
     // erase ignores its data, a bulk erase its address too.
     //
-    // Whether a preset's page is wholly FFh is for the device to say, so `result` leaves that one answer open.
-    //
     // One call takes all five kinds, each by kind, address and data side by side: a rule of the project.
     fn cycle(&mut self, kind: Kind, address: usize, data: &[u8]) -> Result<(), PartFault>
-        ensures result { result ≡ told (verdict_if (meaning self.old) (is_ok result) kind address «data».now) }
-        ensures verdict { intact self.old → result ≡ told (verdict (meaning self.old) kind address «data».now) }
+        ensures result { result ≡ told (verdict (meaning self.old) kind address «data».now) }
         ensures shape { (meaning self.new).shape ≡ (meaning self.old).shape }
         ensures guarded { (meaning self.new).guarded ≡ (meaning self.old).guarded }
         ensures undone { is_ok result ≡ false → meaning self.new ≡ meaning self.old }
-        ensures image { intact self.old → is_ok result ≡ true → (meaning self.new).image ≡ effect (meaning self.old).shape (cycle_of kind address «data».now) (meaning self.old).image }
+        ensures image { is_ok result ≡ true → (meaning self.new).image ≡ effect (meaning self.old).shape (cycle_of kind address «data».now) (meaning self.old).image }
         ensures due { is_ok result ≡ true → 1 ≤ (meaning self.new).due }
-        ensures trace { trace self.old self.new (if is_ok result then carried (cycle_of kind address «data».now) ∷ [] else []) }
-        ensures intact { intact self.old → intact self.new };
+        ensures trace { trace self.old self.new (if is_ok result then carried (cycle_of kind address «data».now) ∷ [] else []) };
 
     // One poll, which asks if the last cycle is over: one less is due then. True if none is.
     fn poll(&mut self) -> bool
         ensures idle { result ≡ idle (meaning self.new) }
         ensures waited { meaning self.new ≡ waited (meaning self.old) }
-        ensures trace { trace self.old self.new (polled ∷ []) }
-        ensures intact { intact self.old → intact self.new };
+        ensures trace { trace self.old self.new (polled ∷ []) };
 
     // What it means is a memory that there can be: its counts in range, its image as long as they say.
     ghost sound: { (s : Self) → Sound (meaning s) };

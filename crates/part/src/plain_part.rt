@@ -16,9 +16,6 @@ impl Part for PlainImage {
 
     ghost trace = { λ a b l. Played (plainly a) l (plainly b) };
 
-    // It has no device to be wrong about.
-    ghost intact = { λ _. Unit {0} };
-
     ghost sound = { λ s.
         let i = s.image in
         record {

@@ -74,7 +74,7 @@ invariant_of-self-2 g c =
     (unrefused _ c.in_ok-check_cycle.ensures.value) q.others q.clean c.is_clean_for.ensures.chip c.send.ensures.chip in record { intact = n.intact }
 
 pub returns-clause-image : goal.returns-clause-image
-returns-clause-image g c = λ _ _.
+returns-clause-image g c = λ _.
     let s = c.args.self.now in
     let q = c.if-not-is_clean_for.ensures in
     let n = sends s.outline (with_busy true s.outline) (g.P.Port.chip s.port) _ _ 0 c.args.kind c.args.address c.args.data.now (g.met.P.Port.sound s.port).0 s.intact refl refl refl

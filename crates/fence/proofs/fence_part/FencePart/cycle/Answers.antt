@@ -1,4 +1,4 @@
-use Rattle.std.proofs.Common.{is_ok, false, Err, sym, ap, ◌∙◌}
+use Rattle.std.proofs.Common.{Err, sym, ap, ◌∙◌}
 use Rattle.part.specs.declared.fault.PartFault.TheVariants.{Protected}
 use Rattle.part.specs.Meaning.{Meaning}
 use Rattle.part.specs.Verdict.{told, clean_at}
@@ -13,26 +13,11 @@ returns-then-bars-clause-result g c =
     let o = unrefused _ c.in_ok-check_form.ensures in
     ap (λ a. Err (Protected a)) c.barred.ensures
     ∙ ap told
-    (sym (formed-verdict m (g.met.P.Part.sound f.part) f.closed false c.args.kind c.args.address c.args.data.now (sym c.if-bars.ensures) _ _ c.size_of.ensures c.is_busy.ensures o))
-
-pub returns-then-bars-clause-verdict : goal.returns-then-bars-clause-verdict
-returns-then-bars-clause-verdict g c = λ _.
-    let f = c.args.self.now in
-    let m : Meaning = g.P.Part.meaning f.part in
-    let o = unrefused _ c.in_ok-check_form.ensures in
-    ap (λ a. Err (Protected a)) c.barred.ensures
-    ∙ ap told
     (sym (formed-verdict m (g.met.P.Part.sound f.part) f.closed (clean_at m c.args.address) c.args.kind c.args.address c.args.data.now (sym c.if-bars.ensures) _ _ c.size_of.ensures c.is_busy.ensures o))
 
 pub returns-clause-result : goal.returns-clause-result
 returns-clause-result g c =
     let f = c.args.self.now in
-    c.cycle.ensures.result
-    ∙ ap told (open_verdict (g.P.Part.meaning f.part) (g.met.P.Part.sound f.part) f.closed (is_ok c.cycle.result) c.args.kind c.args.address c.args.data.now (sym c.if-bars.ensures))
-
-pub returns-clause-verdict : goal.returns-clause-verdict
-returns-clause-verdict g c = λ i.
-    let f = c.args.self.now in
     let m : Meaning = g.P.Part.meaning f.part in
-    c.cycle.ensures.verdict i
+    c.cycle.ensures.result
     ∙ ap told (open_verdict m (g.met.P.Part.sound f.part) f.closed (clean_at m c.args.address) c.args.kind c.args.address c.args.data.now (sym c.if-bars.ensures))

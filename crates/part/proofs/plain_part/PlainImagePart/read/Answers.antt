@@ -12,7 +12,7 @@ pub returns-in_err-check_read-clause-trace : goal.returns-in_err-check_read-clau
 returns-in_err-check_read-clause-trace c = let p = err_from_is_err_and c.from_residual.result c.from_residual.ensures.1 in rw p.1 none
 
 pub returns-clause-bytes : goal.returns-clause-bytes
-returns-clause-bytes c = λ _ _.
+returns-clause-bytes c = λ _.
     let p = c.args.self.now in
     let n = length c.args.into.now in
     let v = unrefused _ c.in_ok-check_read.ensures ∙ outlines_read c.outline.result (plainly p) c.args.address n c.outline.ensures in
