@@ -30,7 +30,7 @@ module _ {P : Type 0} (part : Ghosts P)
   where
     pub did_none : (a : P) → Did part sent [] a a
     did_none a =
-        record { events = []; happened = stays a; exactly = refl; shape = refl; guarded = refl; goes = λ i. (refl, refl); keeps = λ i. i }
+        record { events = []; happened = stays a; exactly = refl; shape = refl; guarded = refl; goes = (refl, refl) }
 
     pub did_polls : (n : ℕ) (a b : P) → Polls part n a b → Did part sent [] a b
     did_polls n a b p =
@@ -40,8 +40,7 @@ module _ {P : Type 0} (part : Ghosts P)
           exactly = no_cycles n;
           shape = ap (λ m. m.shape) p.leaves;
           guarded = ap (λ m. m.guarded) p.leaves;
-          goes = λ i. (refl, sym (ap (λ m. m.image) p.leaves));
-          keeps = p.keeps;
+          goes = (refl, sym (ap (λ m. m.image) p.leaves));
         }
 
     pub did_step : (s : Step) (a b : P) → Carries part sent s a b → Did part sent (step_cycle sent s ∷ []) a b
@@ -52,8 +51,7 @@ module _ {P : Type 0} (part : Ghosts P)
           exactly = refl;
           shape = c.shape;
           guarded = c.guarded;
-          goes = λ i. (and_from _ true (c.accepted i) refl, sym (c.image i));
-          keeps = c.keeps;
+          goes = (and_from _ true c.accepted refl, sym c.image);
         }
 
     pub did_refused : (s : Step) (f : PartFault) (a b : P) → Refuses part sent s f a b → Did part sent [] a b
@@ -64,8 +62,7 @@ module _ {P : Type 0} (part : Ghosts P)
           exactly = refl;
           shape = ap (λ m. m.shape) r.same;
           guarded = ap (λ m. m.guarded) r.same;
-          goes = λ i. (refl, sym (ap (λ m. m.image) r.same));
-          keeps = r.keeps;
+          goes = (refl, sym (ap (λ m. m.image) r.same));
         }
 
     pub did_join : (ys zs : List Cycle) (a b c : P) → Did part sent ys a b → Did part sent zs b c → Did part sent (ys ++ zs) a c
@@ -76,10 +73,9 @@ module _ {P : Type 0} (part : Ghosts P)
           exactly = cycles-++ d.events e.events ∙ ap₂ (λ x y. x ++ y) d.exactly e.exactly;
           shape = e.shape ∙ d.shape;
           guarded = e.guarded ∙ d.guarded;
-          goes = λ i. goes_join (part.meaning a).shape (protected_at (part.meaning a)) ys zs (part.meaning a).image (part.meaning b).image (part.meaning c).image (d.goes i)
+          goes = goes_join (part.meaning a).shape (protected_at (part.meaning a)) ys zs (part.meaning a).image (part.meaning b).image (part.meaning c).image d.goes
               (subst (λ s. Goes s (protected_at (part.meaning a)) (part.meaning b).image zs (part.meaning c).image) d.shape
-              (subst (λ l. Goes (part.meaning b).shape (λ k. get_or l k false) (part.meaning b).image zs (part.meaning c).image) d.guarded (e.goes (d.keeps i))));
-          keeps = λ i. e.keeps (d.keeps i);
+              (subst (λ l. Goes (part.meaning b).shape (λ k. get_or l k false) (part.meaning b).image zs (part.meaning c).image) d.guarded e.goes));
         }
 
     by_cycles : (ys zs : List Cycle) (a b : P) → ys ≡ zs → Did part sent ys a b → Did part sent zs a b

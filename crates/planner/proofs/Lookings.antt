@@ -39,7 +39,6 @@ module _ {S : Type 0} (part : Ghosts S) where
       let fs = q.asked.0 in
       record {
         same = q.same ∙ p.same;
-        keeps = λ h. q.keeps (p.keeps h);
         asked = (
           es ++ fs,
           joins a b c es fs p.asked.1 q.asked.1,
@@ -55,7 +54,6 @@ module _ {S : Type 0} (part : Ghosts S) where
   looked_most n r a b p h =
       record {
         same = p.same;
-        keeps = p.keeps;
         asked = (p.asked.0, p.asked.1, p.asked.2, p.asked.3, omega (arith, h, p.asked.4));
       }
 

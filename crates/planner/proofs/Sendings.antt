@@ -1,6 +1,5 @@
 -- Cycles put on a sheet, one list after another.
 use Rattle.std.proofs.Common.{◌≡◌, ℕ, suc, ◌+◌, ◌*◌, ◌<◌, ◌≤◌, true, ◌⊎◌, List, [], ◌∷◌, ◌++◌, length, set, Some, Option, sym, refl, ap, ◌∙◌, subst, inl, inr, add-zero, arith, length-append}
-use Rattle.std.specs.Prelude.{⊤}
 use lib.Seq.{sets, length-sets}
 use Rattle.std.proofs.lemmas.List.{append_assoc, append-nil}
 use Rattle.std.proofs.lemmas.Bool.{false≢true}
@@ -33,45 +32,33 @@ pub length-steps : (at : ℕ) (l : List Cycle) → length (steps_from at l) ≡ 
 length-steps at [] = refl
 length-steps at (c ∷ l) = ap suc (length-steps (at + length (sent_by c)) l)
 
-pub sent_none : (known : Type 0) (a : Sheet) → Sent known [] a a
-sent_none known a =
+pub sent_none : (a : Sheet) → Sent [] a a
+sent_none a =
     record {
       steps = refl;
       bytes = refl;
-      put = λ _ _ _. record { listed = refl; laid = refl; step_count = sym (add-zero a.step_count); byte_count = sym (add-zero a.byte_count) };
+      put = λ _ _. record { listed = refl; laid = refl; step_count = sym (add-zero a.step_count); byte_count = sym (add-zero a.byte_count) };
     }
 
--- what is known may say more, and tell which cycles they are
-pub sent_as :
-    (known known' : Type 0) (l l' : List Cycle) (a b : Sheet) → (known → known') → (known → l ≡ l') → Sent known' l a b
-    → Sent known l' a b
-sent_as known known' l l' a b f e p =
-    record {
-      steps = p.steps;
-      bytes = p.bytes;
-      put =
-          λ h.
-          subst (λ x. a.step_count + length x ≤ length a.steps.now → a.byte_count + length (data_of x) ≤ length a.data.now → Put x a b) (e h)
-          (p.put (f h));
-    }
+-- the same cycles, told in another way
+pub sent_as : (l l' : List Cycle) (a b : Sheet) → l ≡ l' → Sent l a b → Sent l' a b
+sent_as l l' a b e p = subst (λ x. Sent x a b) e p
 
-pub sent_join :
-    (known known' : Type 0) (l k : List Cycle) (a b c : Sheet) → Sent known l a b → (known → known') → Sent known' k b c
-    → Sent known (l ++ k) a c
-sent_join known known' l k a b c p f q =
+pub sent_join : (l k : List Cycle) (a b c : Sheet) → Sent l a b → Sent k b c → Sent (l ++ k) a c
+sent_join l k a b c p q =
     record {
       steps = q.steps ∙ p.steps;
       bytes = q.bytes ∙ p.bytes;
       put =
-          λ h room room'.
+          λ room room'.
           let n = length-append l k in
           let d = ap length (data_join l k) ∙ length-append (data_of l) (data_of k) in
-          let x = p.put h (omega arith) (omega arith) in
+          let x = p.put (omega arith) (omega arith) in
           let u : length b.steps.now ≡ length a.steps.now = ap length x.listed ∙ length-sets a.steps.now a.step_count (steps_from a.byte_count l) in
           let v : length b.data.now ≡ length a.data.now = ap length x.laid ∙ length-sets a.data.now a.byte_count (data_of l) in
           let s = x.byte_count in
           let t = x.step_count in
-          let y = q.put (f h) (omega arith) (omega arith) in
+          let y = q.put (omega arith) (omega arith) in
           let s' = y.byte_count in
           let t' = y.step_count in
           record {
@@ -136,10 +123,10 @@ module _ (kind : Kind) (paged : of_page kind ≡ true) (z q : ℕ) (new : List �
   -- where there is no room, nothing is put
   pub sent-short :
       (o : Option (ℕ × ℕ)) → Some w ≡ o → (a : Sheet) → (length a.steps.now ≤ a.step_count) ⊎ (length a.data.now < a.byte_count + w.1)
-      → Sent ⊤ (sending (cycle_of kind) z q new o) a a
+      → Sent (sending (cycle_of kind) z q new o) a a
   sent-short o e a h =
-      subst (λ (x : Option (ℕ × ℕ)). Sent ⊤ (sending (cycle_of kind) z q new x) a a) e
-      (record { steps = refl; bytes = refl; put = λ _ room room'. no h room room' })
+      subst (λ (x : Option (ℕ × ℕ)). Sent (sending (cycle_of kind) z q new x) a a) e
+      (record { steps = refl; bytes = refl; put = λ room room'. no h room room' })
     where
       no :
           (length a.steps.now ≤ a.step_count) ⊎ (length a.data.now < a.byte_count + w.1) → a.step_count + length one ≤ length a.steps.now
@@ -151,14 +138,14 @@ module _ (kind : Kind) (paged : of_page kind ≡ true) (z q : ℕ) (new : List �
       (o : Option (ℕ × ℕ)) → Some w ≡ o → (a b : Sheet) → b.steps.ghost_name ≡ a.steps.ghost_name → b.data.ghost_name ≡ a.data.ghost_name
       → b.steps.now ≡ set a.steps.now a.step_count (record { kind = kind; address = q * z + w.0; length = w.1; place = a.byte_count })
       → b.data.now ≡ sets a.data.now a.byte_count (bytes_from z new w.0 w.1) → b.step_count ≡ a.step_count + 1 → b.byte_count ≡ a.byte_count + w.1
-      → Sent ⊤ (sending (cycle_of kind) z q new o) a b
+      → Sent (sending (cycle_of kind) z q new o) a b
   sent-page o e a b steps bytes s d u v =
-      subst (λ (x : Option (ℕ × ℕ)). Sent ⊤ (sending (cycle_of kind) z q new x) a b) e
+      subst (λ (x : Option (ℕ × ℕ)). Sent (sending (cycle_of kind) z q new x) a b) e
       (record {
         steps = steps;
         bytes = bytes;
         put =
-            λ _ _ _.
+            λ _ _.
             record {
               listed = s ∙ ap (λ y. sets a.steps.now a.step_count y) (sym (step-one a.byte_count));
               laid = d ∙ ap (λ y. sets a.data.now a.byte_count y) (sym data_one);

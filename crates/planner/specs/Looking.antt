@@ -10,7 +10,6 @@ use Rattle.part.specs.Verdict.{idle}
 pub record Looked {S : Type 0} (part : Ghosts S) (a b : S)
     : Type 0 where
   pub same : part.meaning b ≡ part.meaning a
-  pub keeps : part.intact a → part.intact b
   pub asked : (es : List Event) × part.trace a b es × (cycles es ≡ []) × (polls es ≡ 0)
 
 -- how many bytes were asked for
@@ -25,7 +24,6 @@ pub record LookedBy {S : Type 0} (part : Ghosts S) (n : ℕ)
     (a b : S)
     : Type 0 where
   pub same : part.meaning b ≡ part.meaning a
-  pub keeps : part.intact a → part.intact b
   pub asked : (es : List Event) × part.trace a b es × (cycles es ≡ []) × (polls es ≡ 0) × (asked_bytes es ≤ n)
 
 -- bytes that lie inside an idle memory

@@ -8,7 +8,7 @@ use Rattle.part.specs.declared.fault.PartFault.{PartFault}
 use Rattle.part.specs.declared.fault.PartFault.TheVariants.{Outside, PageData}
 use Rattle.part.specs.declared.part.Part.{Ghosts}
 use Rattle.part.specs.Meaning.{Meaning, Event, carried, cycles, protected_at}
-use Rattle.part.specs.Verdict.{check, inside, clean_at, verdict_if}
+use Rattle.part.specs.Verdict.{check, inside, verdict}
 use Rattle.least.specs.declared.step.Step.{Step}
 use Rattle.planner.specs.declared.run_fault.RunFault.{RunFault}
 use Rattle.planner.specs.declared.run_fault.RunFault.TheVariants.{Limit, StillBusy, Refused, Abandoned}
@@ -27,15 +27,12 @@ held Preset lie = lie
 held SectorErase lie = true
 held BulkErase lie = true
 
--- why a step is refused, if it is, where its page is as `clean` says: its address, then its data, then what the part answers
-abbrev pub step_verdict_if : Meaning → Bool → List ℕ → Step → Option PartFault
-step_verdict_if m clean sent s =
+-- why a step is refused, if it is: its address, then its data, then what the part answers, polls due among it
+abbrev pub step_verdict : Meaning → List ℕ → Step → Option PartFault
+step_verdict m sent s =
     check (inside m.shape s.kind s.address) (Outside s.address)
     (check (held s.kind (lies s sent)) (PageData s.length)
-    (verdict_if m clean s.kind s.address (block s.place s.length sent)))
-
-abbrev pub step_verdict : Meaning → List ℕ → Step → Option PartFault
-step_verdict m sent s = step_verdict_if m (clean_at m s.address) sent s
+    (verdict m s.kind s.address (block s.place s.length sent)))
 
 -- a limit of 1 to 4,096 polls
 abbrev pub allowed : ℕ → Bool
@@ -56,18 +53,14 @@ module _ {P : Type 0} (part : Ghosts P) (sent : List ℕ) where
     pub shape : (part.meaning to).shape ≡ (part.meaning from).shape
     pub guarded : (part.meaning to).guarded ≡ (part.meaning from).guarded
     pub due : 1 ≤ (part.meaning to).due
-    pub accepted : part.intact from → accepts (part.meaning from).shape (protected_at (part.meaning from)) (step_cycle sent s) (part.meaning from).image ≡ true
-    pub image : part.intact from → (part.meaning to).image ≡ effect (part.meaning from).shape (step_cycle sent s) (part.meaning from).image
-    pub keeps : part.intact from → part.intact to
+    pub accepted : accepts (part.meaning from).shape (protected_at (part.meaning from)) (step_cycle sent s) (part.meaning from).image ≡ true
+    pub image : (part.meaning to).image ≡ effect (part.meaning from).shape (step_cycle sent s) (part.meaning from).image
 
   -- the step is refused, and nothing alters
   pub record Refuses (s : Step) (fault : PartFault) (from to : P) : Type 0 where
     pub event : part.trace from to []
     pub same : part.meaning to ≡ part.meaning from
-    -- whatever a preset's page holds
-    pub cause : step_verdict_if (part.meaning from) false sent s ≡ Some fault
-    pub verdict : part.intact from → step_verdict (part.meaning from) sent s ≡ Some fault
-    pub keeps : part.intact from → part.intact to
+    pub verdict : step_verdict (part.meaning from) sent s ≡ Some fault
 
   -- steps sent in their order, each waited for by as many polls as were due, which the limit allowed
   pub data Sends (limit : ℕ) : P → List Step → P → Type 0 where
@@ -103,5 +96,4 @@ module _ {P : Type 0} (part : Ghosts P) (sent : List ℕ) where
     pub exactly : cycles events ≡ ys
     pub shape : (part.meaning to).shape ≡ (part.meaning from).shape
     pub guarded : (part.meaning to).guarded ≡ (part.meaning from).guarded
-    pub goes : part.intact from → Goes (part.meaning from).shape (protected_at (part.meaning from)) (part.meaning from).image ys (part.meaning to).image
-    pub keeps : part.intact from → part.intact to
+    pub goes : Goes (part.meaning from).shape (protected_at (part.meaning from)) (part.meaning from).image ys (part.meaning to).image

@@ -15,11 +15,11 @@ pub record Put (l : List Cycle) (a b : Sheet) : Type 0 where
   pub step_count : b.step_count ≡ a.step_count + length l
   pub byte_count : b.byte_count ≡ a.byte_count + length (data_of l)
 
--- the sheet is of the same buffers; if this is known, and there is room for the cycles, they were put there
-pub record Sent (known : Type 0) (l : List Cycle) (a b : Sheet) : Type 0 where
+-- the sheet is of the same buffers; if there is room for the cycles, they were put there
+pub record Sent (l : List Cycle) (a b : Sheet) : Type 0 where
   pub steps : b.steps.ghost_name ≡ a.steps.ghost_name
   pub bytes : b.data.ghost_name ≡ a.data.ghost_name
-  pub put : known → a.step_count + length l ≤ length a.steps.now → a.byte_count + length (data_of l) ≤ length a.data.now → Put l a b
+  pub put : a.step_count + length l ≤ length a.steps.now → a.byte_count + length (data_of l) ≤ length a.data.now → Put l a b
 
 -- the same of buffers with nothing put before: if there is room for the cycles, they stand at the front of each
 abbrev pub Laid : List Cycle → List Step → List Step → List ℕ → List ℕ → Type 0

@@ -16,7 +16,7 @@ use part::part::Part;
 fn change<P: Part>(part: &mut P, write: Write<'_>, q: usize) -> Option<usize>
     requires { Fitting (P.Part.meaning part.old) write.address write.bytes.now × Readable (P.Part.meaning part.old) q }
     ensures looked { LookedBy P.Part 64 part.old part.new }
-    ensures value { P.Part.intact part.old → FirstIn (q * 64) (q * 64 + 64) (P.Part.meaning part.old).image (wanted (P.Part.meaning part.old) write.entry.address write.entry.bytes.now) result }
+    ensures value { FirstIn (q * 64) (q * 64 + 64) (P.Part.meaning part.old).image (wanted (P.Part.meaning part.old) write.entry.address write.entry.bytes.now) result }
 {
     if !write.touches(q) {
         return None;
@@ -31,7 +31,7 @@ fn change_in<P: Part>(part: &mut P, write: Write<'_>, first: usize, count: usize
     requires fitting { Fitting (P.Part.meaning part.old) write.address write.bytes.now }
     requires count_bound { PagesIn (P.Part.meaning part.old) first count }
     ensures looked { LookedBy P.Part (64 * count) part.old part.new }
-    ensures value { P.Part.intact part.old → FirstIn (first * 64) ((first + count) * 64) (P.Part.meaning part.old).image (wanted (P.Part.meaning part.old) write.entry.address write.entry.bytes.now) result }
+    ensures value { FirstIn (first * 64) ((first + count) * 64) (P.Part.meaning part.old).image (wanted (P.Part.meaning part.old) write.entry.address write.entry.bytes.now) result }
 {
     // no `find_map`: tried, and a chain carries no invariant, so that nothing is known of the part at its closure's next call
     for q in first..first + count {
@@ -46,7 +46,7 @@ fn change_in<P: Part>(part: &mut P, write: Write<'_>, first: usize, count: usize
 pub(crate) fn lowest_barred<P: Part>(part: &mut P, write: Write<'_>) -> Option<usize>
     requires { Fitting (P.Part.meaning part.old) write.address write.bytes.now }
     ensures looked { LookedBy P.Part (for_barred (P.Part.meaning part.old)) part.old part.new }
-    ensures value { P.Part.intact part.old → LowestIs (P.Part.meaning part.old).shape (protected_at (P.Part.meaning part.old)) (P.Part.meaning part.old).image (wanted (P.Part.meaning part.old) write.entry.address write.entry.bytes.now) result }
+    ensures value { LowestIs (P.Part.meaning part.old).shape (protected_at (P.Part.meaning part.old)) (P.Part.meaning part.old).image (wanted (P.Part.meaning part.old) write.entry.address write.entry.bytes.now) result }
 {
     let pages = part.pages();
     let sectors = part.sectors();

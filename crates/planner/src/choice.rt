@@ -29,9 +29,9 @@ fn sector_cost<P: Part>(part: &mut P, write: Write<'_>, k: usize) -> Sector
     requires { Fitting (P.Part.meaning part.old) write.address write.bytes.now × (k < (P.Part.meaning part.old).shape.sectors) }
     ensures looked { LookedBy P.Part (64 * (P.Part.meaning part.old).shape.pages) part.old part.new }
     ensures bound { UpTo 4097 result.costs.cost × UpTo 2048 result.costs.presets }
-    ensures pages { P.Part.intact part.old → result.pages ≡ sector_pages (P.Part.meaning part.old) write.entry.address write.entry.bytes.now k }
-    ensures value { P.Part.intact part.old → result.costs.cost ≡ sector_cost fewest (P.Part.meaning part.old).shape (kept (P.Part.meaning part.old) write.entry.address write.entry.bytes.now) (preset (P.Part.meaning part.old) write.entry.address write.entry.bytes.now) k }
-    ensures touched { P.Part.intact part.old → result.costs.presets ≡ over_sector fewest (P.Part.meaning part.old).shape (preset_on (P.Part.meaning part.old) write.entry.address write.entry.bytes.now) k }
+    ensures pages { result.pages ≡ sector_pages (P.Part.meaning part.old) write.entry.address write.entry.bytes.now k }
+    ensures value { result.costs.cost ≡ sector_cost fewest (P.Part.meaning part.old).shape (kept (P.Part.meaning part.old) write.entry.address write.entry.bytes.now) (preset (P.Part.meaning part.old) write.entry.address write.entry.bytes.now) k }
+    ensures touched { result.costs.presets ≡ over_sector fewest (P.Part.meaning part.old).shape (preset_on (P.Part.meaning part.old) write.entry.address write.entry.bytes.now) k }
 {
     let pages = part.pages();
     let first = k * pages;
@@ -53,9 +53,9 @@ fn sector_costs<P: Part>(part: &mut P, write: Write<'_>, marks: &mut [Pages]) ->
     requires { Fitting (P.Part.meaning part.old) write.address write.bytes.now × (length marks.old ≡ (P.Part.meaning part.old).shape.sectors) }
     ensures looked { LookedBy P.Part (whole (P.Part.meaning part.old)) part.old part.new }
     ensures bound { UpTo 262144 result.presets }
-    ensures value { P.Part.intact part.old → result.cost ≡ by_sectors (P.Part.meaning part.old) write.entry.address write.entry.bytes.now }
-    ensures touched { P.Part.intact part.old → result.presets ≡ on_all (P.Part.meaning part.old) write.entry.address write.entry.bytes.now }
-    ensures marks { P.Part.intact part.old → (k : ℕ) → k < (P.Part.meaning part.old).shape.sectors → slice_index_or marks.new k Kept ≡ sector_pages (P.Part.meaning part.old) write.entry.address write.entry.bytes.now k }
+    ensures value { result.cost ≡ by_sectors (P.Part.meaning part.old) write.entry.address write.entry.bytes.now }
+    ensures touched { result.presets ≡ on_all (P.Part.meaning part.old) write.entry.address write.entry.bytes.now }
+    ensures marks { (k : ℕ) → k < (P.Part.meaning part.old).shape.sectors → slice_index_or marks.new k Kept ≡ sector_pages (P.Part.meaning part.old) write.entry.address write.entry.bytes.now k }
 {
     let mut costs = Costs::NONE;
     for (k, mark) in marks.iter_mut().enumerate() {
@@ -77,7 +77,7 @@ fn bulk_cost<P: Part>(part: &mut P, write: Write<'_>, presets: Cost, limit: Cost
     requires fitting { Fitting (P.Part.meaning part.old) write.address write.bytes.now }
     requires presets_bound { UpTo 262144 presets }
     ensures looked { LookedBy P.Part (for_bulk (P.Part.meaning part.old)) part.old part.new }
-    ensures value { P.Part.intact part.old → presets ≡ on_all (P.Part.meaning part.old) write.entry.address write.entry.bytes.now → result ≡ (if free (protected_at (P.Part.meaning part.old)) (P.Part.meaning part.old).shape.sectors then below limit (bulk_cost fewest (P.Part.meaning part.old).shape (preset (P.Part.meaning part.old) write.entry.address write.entry.bytes.now)) else None) }
+    ensures value { presets ≡ on_all (P.Part.meaning part.old) write.entry.address write.entry.bytes.now → result ≡ (if free (protected_at (P.Part.meaning part.old)) (P.Part.meaning part.old).shape.sectors then below limit (bulk_cost fewest (P.Part.meaning part.old).shape (preset (P.Part.meaning part.old) write.entry.address write.entry.bytes.now)) else None) }
 {
     if !is_free(part) {
         return None;
@@ -89,7 +89,7 @@ fn bulk_cost<P: Part>(part: &mut P, write: Write<'_>, presets: Cost, limit: Cost
 pub(crate) fn choose<P: Part>(part: &mut P, write: Write<'_>) -> Choice
     requires { Fitting (P.Part.meaning part.old) write.address write.bytes.now }
     ensures looked { LookedBy P.Part (whole (P.Part.meaning part.old) + for_bulk (P.Part.meaning part.old)) part.old part.new }
-    ensures value { P.Part.intact part.old → Chosen (P.Part.meaning part.old) write.entry.address write.entry.bytes.now result }
+    ensures value { Chosen (P.Part.meaning part.old) write.entry.address write.entry.bytes.now result }
 {
     // the part's sectors are the first of them
     let mut marks = [Pages::Kept; MOST_SECTORS];

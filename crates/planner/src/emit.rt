@@ -37,7 +37,7 @@ fn kept_kind(old: &Page, new: &Page) -> Kind
 fn put_page<P: Part>(part: &mut P, write: Write<'_>, pages: Pages, q: usize, sheet: &mut Sheet<'_>)
     requires { Fitting (P.Part.meaning part.old) write.address write.bytes.now × Readable (P.Part.meaning part.old) q }
     ensures looked { LookedBy P.Part 64 part.old part.new }
-    ensures sent { Sent (P.Part.intact part.old) (page_list (P.Part.meaning part.old) write.entry.address write.entry.bytes.now pages q) sheet.old sheet.new }
+    ensures sent { Sent (page_list (P.Part.meaning part.old) write.entry.address write.entry.bytes.now pages q) sheet.old sheet.new }
 {
     if sheet.is_full() {
         return;
@@ -69,7 +69,7 @@ fn put_pages<P: Part>(
     requires fitting { Fitting (P.Part.meaning part.old) write.address write.bytes.now }
     requires count_bound { PagesIn (P.Part.meaning part.old) first count }
     ensures looked { LookedBy P.Part (64 * count) part.old part.new }
-    ensures sent { Sent (P.Part.intact part.old) (pages_list (P.Part.meaning part.old) write.entry.address write.entry.bytes.now pages first count) sheet.old sheet.new }
+    ensures sent { Sent (pages_list (P.Part.meaning part.old) write.entry.address write.entry.bytes.now pages first count) sheet.old sheet.new }
 {
     for q in first..first + count {
         put_page(part, write, pages, q, sheet);
@@ -86,7 +86,7 @@ fn put_sector<P: Part>(
 )
     requires { Fitting (P.Part.meaning part.old) write.address write.bytes.now × (k < (P.Part.meaning part.old).shape.sectors) }
     ensures looked { LookedBy P.Part (64 * (P.Part.meaning part.old).shape.pages) part.old part.new }
-    ensures sent { Sent (P.Part.intact part.old) (sector_list (P.Part.meaning part.old) write.entry.address write.entry.bytes.now pages k) sheet.old sheet.new }
+    ensures sent { Sent (sector_list (P.Part.meaning part.old) write.entry.address write.entry.bytes.now pages k) sheet.old sheet.new }
 {
     let count = part.pages();
     let first = k * count;
@@ -105,7 +105,7 @@ fn put_sectors<P: Part>(
 )
     requires { Fitting (P.Part.meaning part.old) write.address write.bytes.now }
     ensures looked { LookedBy P.Part (whole (P.Part.meaning part.old)) part.old part.new }
-    ensures sent { Sent (P.Part.intact part.old) (sectors_list (P.Part.meaning part.old) write.entry.address write.entry.bytes.now marks.now) sheet.old sheet.new }
+    ensures sent { Sent (sectors_list (P.Part.meaning part.old) write.entry.address write.entry.bytes.now marks.now) sheet.old sheet.new }
 {
     let sectors = part.sectors();
     for (k, pages) in marks[..sectors].iter().enumerate() {
@@ -117,7 +117,7 @@ fn put_sectors<P: Part>(
 fn put_bulk<P: Part>(part: &mut P, write: Write<'_>, sheet: &mut Sheet<'_>)
     requires { Fitting (P.Part.meaning part.old) write.address write.bytes.now }
     ensures looked { LookedBy P.Part (whole (P.Part.meaning part.old)) part.old part.new }
-    ensures sent { Sent (P.Part.intact part.old) (bulk_list (P.Part.meaning part.old) write.entry.address write.entry.bytes.now) sheet.old sheet.new }
+    ensures sent { Sent (bulk_list (P.Part.meaning part.old) write.entry.address write.entry.bytes.now) sheet.old sheet.new }
 {
     let count = part.sectors() * part.pages();
     sheet.put_erase(Kind::BulkErase, 0);
@@ -126,9 +126,10 @@ fn put_bulk<P: Part>(part: &mut P, write: Write<'_>, sheet: &mut Sheet<'_>)
 
 // A choice.
 fn put_choice<P: Part>(part: &mut P, write: Write<'_>, choice: &Choice, sheet: &mut Sheet<'_>)
-    requires { Fitting (P.Part.meaning part.old) write.address write.bytes.now }
+    requires fitting { Fitting (P.Part.meaning part.old) write.address write.bytes.now }
+    requires chosen { Chosen (P.Part.meaning part.old) write.address write.bytes.now choice.now }
     ensures looked { LookedBy P.Part (whole (P.Part.meaning part.old)) part.old part.new }
-    ensures sent { Sent (P.Part.intact part.old × Chosen (P.Part.meaning part.old) write.entry.address write.entry.bytes.now choice.now) (plan_list (P.Part.meaning part.old) write.entry.address write.entry.bytes.now) sheet.old sheet.new }
+    ensures sent { Sent (plan_list (P.Part.meaning part.old) write.entry.address write.entry.bytes.now) sheet.old sheet.new }
 {
     match &choice.erasure {
         Erasure::All => put_bulk(part, write, sheet),
@@ -144,9 +145,10 @@ pub(crate) fn put_plan<P: Part>(
     steps: &mut [Step],
     data: &mut [u8],
 )
-    requires { Fitting (P.Part.meaning part.old) write.address write.bytes.now }
+    requires fitting { Fitting (P.Part.meaning part.old) write.address write.bytes.now }
+    requires chosen { Chosen (P.Part.meaning part.old) write.address write.bytes.now choice.now }
     ensures looked { LookedBy P.Part (whole (P.Part.meaning part.old)) part.old part.new }
-    ensures laid { P.Part.intact part.old → Chosen (P.Part.meaning part.old) write.entry.address write.entry.bytes.now choice.now → Laid (plan_list (P.Part.meaning part.old) write.entry.address write.entry.bytes.now) steps.old steps.new «data».old «data».new }
+    ensures laid { Laid (plan_list (P.Part.meaning part.old) write.entry.address write.entry.bytes.now) steps.old steps.new «data».old «data».new }
 {
     let mut sheet = Sheet::new(steps, data);
     put_choice(part, write, choice, &mut sheet);

@@ -13,7 +13,7 @@ use part::part::Part;
 pub(crate) fn read_page<P: Part>(part: &mut P, q: usize) -> Page
     requires { Readable (P.Part.meaning part.old) q }
     ensures looked { LookedBy P.Part 64 part.old part.new }
-    ensures bytes { P.Part.intact part.old → result ≡ page 64 q (P.Part.meaning part.old).image }
+    ensures bytes { result ≡ page 64 q (P.Part.meaning part.old).image }
 {
     let mut bytes = [0; PAGE_BYTES];
     part.read(q * PAGE_BYTES, &mut bytes).unwrap();
@@ -32,8 +32,8 @@ pub(crate) fn protects<P: Part>(part: &P, sector: usize) -> bool
 pub(crate) fn both_pages<P: Part>(part: &mut P, write: Write<'_>, q: usize) -> (Page, Page)
     requires { Fitting (P.Part.meaning part.old) write.address write.bytes.now × Readable (P.Part.meaning part.old) q }
     ensures looked { LookedBy P.Part 64 part.old part.new }
-    ensures old { P.Part.intact part.old → result.0 ≡ page 64 q (P.Part.meaning part.old).image }
-    ensures new { P.Part.intact part.old → result.1 ≡ page 64 q (wanted (P.Part.meaning part.old) write.entry.address write.entry.bytes.now) }
+    ensures old { result.0 ≡ page 64 q (P.Part.meaning part.old).image }
+    ensures new { result.1 ≡ page 64 q (wanted (P.Part.meaning part.old) write.entry.address write.entry.bytes.now) }
 {
     let old = read_page(part, q);
     let mut new = old;
@@ -45,7 +45,7 @@ pub(crate) fn both_pages<P: Part>(part: &mut P, write: Write<'_>, q: usize) -> (
 pub(crate) fn wanted_page<P: Part>(part: &mut P, write: Write<'_>, q: usize) -> Page
     requires { Fitting (P.Part.meaning part.old) write.address write.bytes.now × Readable (P.Part.meaning part.old) q }
     ensures looked { LookedBy P.Part 64 part.old part.new }
-    ensures bytes { P.Part.intact part.old → result ≡ page 64 q (wanted (P.Part.meaning part.old) write.entry.address write.entry.bytes.now) }
+    ensures bytes { result ≡ page 64 q (wanted (P.Part.meaning part.old) write.entry.address write.entry.bytes.now) }
 {
     let start = q * PAGE_BYTES;
     if write.address > start || write.end() < start + PAGE_BYTES {

@@ -30,7 +30,7 @@ fn plan_inside<P: Part>(
     ensures unplanned { is_ok result ≡ false → (steps.new ≡ steps.old) × («data».new ≡ «data».old) }
     ensures room { IfOk result (λ cost. (cost.0 ≤ length steps.old) × (cost.1 ≤ length «data».old)) }
     ensures rest { IfOk result (λ cost. (drop cost.0 steps.new ≡ drop cost.0 steps.old) × (drop cost.1 «data».new ≡ drop cost.1 «data».old)) }
-    ensures answer { P.Part.intact part.old → Handed (plan_inside (P.Part.meaning part.old) write.entry.address write.entry.bytes.now (length steps.old) (length «data».old)) result steps.old steps.new «data».old «data».new }
+    ensures answer { Handed (plan_inside (P.Part.meaning part.old) write.entry.address write.entry.bytes.now (length steps.old) (length «data».old)) result steps.old steps.new «data».old «data».new }
 {
     if let Some(place) = lowest_barred(part, write) {
         return Err(PlanFault::Protected(place));
@@ -70,7 +70,7 @@ pub fn plan<P: Part>(
     ensures unplanned { is_ok result ≡ false → (steps.new ≡ steps.old) × («data».new ≡ «data».old) }
     ensures room { IfOk result (λ cost. (cost.0 ≤ length steps.old) × (cost.1 ≤ length «data».old)) }
     ensures rest { IfOk result (λ cost. (drop cost.0 steps.new ≡ drop cost.0 steps.old) × (drop cost.1 «data».new ≡ drop cost.1 «data».old)) }
-    ensures answer { P.Part.intact part.old → Handed (plan_call (P.Part.meaning part.old) address bytes.now (length steps.old) (length «data».old)) result steps.old steps.new «data».old «data».new }
+    ensures answer { Handed (plan_call (P.Part.meaning part.old) address bytes.now (length steps.old) (length «data».old)) result steps.old steps.new «data».old «data».new }
 {
     if !is_inside(size_of(part), address, bytes.len()) {
         return Err(PlanFault::Outside(address));

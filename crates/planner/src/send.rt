@@ -23,10 +23,10 @@ fn sent_by<'a>(step: &Step, data: &'a [u8]) -> Option<&'a [u8]>
     Some(&data[step.place..step.place + step.length])
 }
 
-// Sends one step to a part with nothing due.
+// Sends one step to a part. With polls due it is refused, as busy unless its address or its data are refused first.
 pub fn send<P: Part>(part: &mut P, step: &Step, data: &[u8]) -> Result<(), PartFault>
-    ensures { (P.Part.meaning part.old).due ≡ 0 → MatchResult result
-        (λ _. Carries P.Part «data».now step.now part.old part.new)
+    ensures { MatchResult result
+        (λ _. ((P.Part.meaning part.old).due ≡ 0) × Carries P.Part «data».now step.now part.old part.new)
         (λ f. Refuses P.Part «data».now step.now f part.old part.new) }
 {
     let Some(sent) = sent_by(step, data) else {

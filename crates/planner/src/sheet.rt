@@ -1,6 +1,6 @@
 // A sheet: a step list and a data buffer, filled from their fronts. Where there is no room nothing is put. The caller lends the two
 // apart, as the planner has no heap, and each may be too short, which is a refusal of its own.
-ghost use Rattle.std.specs.Prelude.{◌≡◌, ◌+◌, ◌*◌, ◌^◌, ◌<◌, ◌≤◌, ⊤, true, [], ◌∷◌, length, nat_le};
+ghost use Rattle.std.specs.Prelude.{◌≡◌, ◌+◌, ◌*◌, ◌^◌, ◌<◌, ◌≤◌, true, [], ◌∷◌, length, nat_le};
 ghost use Rattle.memory.specs.Cycle.{cycle_of};
 ghost use Rattle.least.specs.Plan.{bytes_from, sending};
 ghost use Rattle.least.specs.Steps.{address_of};
@@ -50,7 +50,7 @@ impl<'a> Sheet<'a> {
     // The cycle that sends what changes of page q, if anything does.
     pub(crate) fn put_page(&mut self, kind: Kind, q: usize, old: &Page, new: &Page)
         requires { (of_page kind ≡ true) × (q < 2 ^ 32) }
-        ensures { Sent ⊤ (sending (cycle_of kind) 64 q new.now (window 64 old.now new.now)) self.old self.new }
+        ensures { Sent (sending (cycle_of kind) 64 q new.now (window 64 old.now new.now)) self.old self.new }
     {
         let Some(Run { start, length }) = window(old, new) else {
             return;
@@ -73,7 +73,7 @@ impl<'a> Sheet<'a> {
     // An erase, which has no data. (Its step is stored as a page's is: a function for both would need a clause for each field.)
     pub(crate) fn put_erase(&mut self, kind: Kind, address: usize)
         requires { address_of (cycle_of kind address []) ≡ address }
-        ensures { Sent ⊤ (cycle_of kind address [] ∷ []) self.old self.new }
+        ensures { Sent (cycle_of kind address [] ∷ []) self.old self.new }
     {
         if self.is_full() {
             return;

@@ -51,8 +51,8 @@ fn page_costs<P: Part>(part: &mut P, write: Write<'_>, q: usize) -> Costs
     requires { Fitting (P.Part.meaning part.old) write.address write.bytes.now × Readable (P.Part.meaning part.old) q }
     ensures looked { LookedBy P.Part (if touched write.entry.address write.entry.bytes.now q then 64 else 0) part.old part.new }
     ensures bound { UpTo 1 result.cost × UpTo 1 result.presets }
-    ensures kept { P.Part.intact part.old → result.cost ≡ kept (P.Part.meaning part.old) write.entry.address write.entry.bytes.now q }
-    ensures preset { P.Part.intact part.old → result.presets ≡ preset_on (P.Part.meaning part.old) write.entry.address write.entry.bytes.now q }
+    ensures kept { result.cost ≡ kept (P.Part.meaning part.old) write.entry.address write.entry.bytes.now q }
+    ensures preset { result.presets ≡ preset_on (P.Part.meaning part.old) write.entry.address write.entry.bytes.now q }
 {
     if !write.touches(q) {
         return Costs::NONE;
@@ -69,7 +69,7 @@ fn rest_cost<P: Part>(part: &mut P, write: Write<'_>, q: usize) -> Cost
     requires { Fitting (P.Part.meaning part.old) write.address write.bytes.now × Readable (P.Part.meaning part.old) q }
     ensures looked { LookedBy P.Part (if touched write.entry.address write.entry.bytes.now q then 0 else 64) part.old part.new }
     ensures bound { UpTo 1 result }
-    ensures value { P.Part.intact part.old → result ≡ preset_off (P.Part.meaning part.old) write.entry.address write.entry.bytes.now q }
+    ensures value { result ≡ preset_off (P.Part.meaning part.old) write.entry.address write.entry.bytes.now q }
 {
     if write.touches(q) {
         return NOTHING;
@@ -90,8 +90,8 @@ pub(crate) fn touched_costs<P: Part>(
     requires count_bound { PagesIn (P.Part.meaning part.old) first count }
     ensures looked { LookedBy P.Part (bytes_on write.entry.address write.entry.bytes.now first count) part.old part.new }
     ensures bound { UpTo count result.cost × UpTo count result.presets }
-    ensures kept { P.Part.intact part.old → result.cost ≡ kept_from (P.Part.meaning part.old) write.entry.address write.entry.bytes.now first count }
-    ensures presets { P.Part.intact part.old → result.presets ≡ on_from (P.Part.meaning part.old) write.entry.address write.entry.bytes.now first count }
+    ensures kept { result.cost ≡ kept_from (P.Part.meaning part.old) write.entry.address write.entry.bytes.now first count }
+    ensures presets { result.presets ≡ on_from (P.Part.meaning part.old) write.entry.address write.entry.bytes.now first count }
 {
     let mut costs = Costs::NONE;
     for q in first..first + count {
@@ -115,7 +115,7 @@ pub(crate) fn erase_costs<P: Part>(
     requires presets_bound { UpTo 262144 presets }
     ensures looked { LookedBy P.Part (bytes_off write.entry.address write.entry.bytes.now first count) part.old part.new }
     ensures bound { (n : ℕ) → UpTo n presets → IfSome result (UpTo (1 + n + count)) }
-    ensures value { P.Part.intact part.old → presets ≡ on_from (P.Part.meaning part.old) write.entry.address write.entry.bytes.now first count → result ≡ below limit (erased_from (P.Part.meaning part.old) write.entry.address write.entry.bytes.now first count) }
+    ensures value { presets ≡ on_from (P.Part.meaning part.old) write.entry.address write.entry.bytes.now first count → result ≡ below limit (erased_from (P.Part.meaning part.old) write.entry.address write.entry.bytes.now first count) }
 {
     let mut cost = plus(ERASE, presets);
     for q in first..first + count {

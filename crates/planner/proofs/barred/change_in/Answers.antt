@@ -19,7 +19,6 @@ loop-q-preserved g c =
     let b = c.args.write.bytes.now in
     let q = c.loop-q.q in (
       looked_join g.P.Part g.met.P.Part.joins _ _ _ _ _ _ inv.0 page.looked (omega arith),
-      λ h.
-          first_more (c.args.first * 64) (q * 64) (q * 64 + 64) ((q + 1) * 64) m.image (wanted m a b) (omega arith) (inv.1 h)
-          (subst (λ (x : Meaning). FirstIn (q * 64) (q * 64 + 64) x.image (wanted x a b) None) inv.0.same (page.value (inv.0.keeps h))),
+      first_more (c.args.first * 64) (q * 64) (q * 64 + 64) ((q + 1) * 64) m.image (wanted m a b) (omega arith) inv.1
+          (subst (λ (x : Meaning). FirstIn (q * 64) (q * 64 + 64) x.image (wanted x a b) None) inv.0.same page.value),
     )

@@ -7,5 +7,4 @@ abbrev pub invariant-loop-q : goal.invariant-loop-q
 invariant-loop-q g l =
     let m = g.P.Part.meaning l.initial.part in
     LookedBy g.P.Part (64 * (l.q - l.first)) l.initial.part l.part
-    × (g.P.Part.intact l.initial.part
-    → FirstIn (l.first * 64) (l.q * 64) m.image (wanted m l.write.address l.write.bytes.now) None)
+    × FirstIn (l.first * 64) (l.q * 64) m.image (wanted m l.write.address l.write.bytes.now) None

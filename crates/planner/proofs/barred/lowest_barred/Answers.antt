@@ -37,11 +37,10 @@ returns-in-Some-clause-value g c =
     let k = c.loop-k.k in
     let p = c.pages-pages.result in
     let s = c.sectors-sectors.ensures in
-    λ h.
     barred_some m c.requires.sound (wanted m a b) k p c.pages-pages.ensures c.in-Some.place (omega arith)
     (said m (g.P.Part.meaning c.loop-k.part) k true inv.0.same (sym c.if-protects.ensures))
-    (subst (λ (x : Meaning). FirstIn (k * p * 64) ((k * p + p) * 64) x.image (wanted x a b) (Some c.in-Some.place)) inv.0.same (c.in-Some.ensures.value (inv.0.keeps h)))
-    (inv.1 h)
+    (subst (λ (x : Meaning). FirstIn (k * p * 64) ((k * p + p) * 64) x.image (wanted x a b) (Some c.in-Some.place)) inv.0.same c.in-Some.ensures.value)
+    inv.1
 
 pub loop-k-preserved : goal.loop-k-preserved
 loop-k-preserved g c =
@@ -65,17 +64,15 @@ loop-k-preserved g c =
             (free_not (protected_at m) m.shape.sectors k inside
             (said m now k true inv.0.same (sym w.if-protects.ensures)))
             (omega (arith, more, c.pages-pages.ensures)))),
-        λ h.
-            barred_same m c.requires.sound (wanted m a b) k p c.pages-pages.ensures
-            (subst (λ (x : Meaning). FirstIn (k * p * 64) ((k * p + p) * 64) x.image (wanted x a b) None) inv.0.same (w.in_default.ensures.value (inv.0.keeps h)))
-            (inv.1 h),
+        barred_same m c.requires.sound (wanted m a b) k p c.pages-pages.ensures
+            (subst (λ (x : Meaning). FirstIn (k * p * 64) ((k * p + p) * 64) x.image (wanted x a b) None) inv.0.same w.in_default.ensures.value)
+            inv.1,
       )
       | else-protects w ↦ (
         subst (λ x. LookedBy g.P.Part then c.args.part.now x) (sym w.part-is)
             (looked_most g.P.Part _ then _ _ inv.0
             (guarded_most f (64 * (k * m.shape.pages)) (64 * ((k + 1) * m.shape.pages)) (omega (arith, more)))),
-        λ h.
-            barred_open m c.requires.sound (wanted m a b) k p c.pages-pages.ensures
-            (said m now k false inv.0.same (sym w.if-protects.ensures)) (inv.1 h),
+        barred_open m c.requires.sound (wanted m a b) k p c.pages-pages.ensures
+            (said m now k false inv.0.same (sym w.if-protects.ensures)) inv.1,
       )
     ]

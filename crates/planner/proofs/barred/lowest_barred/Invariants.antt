@@ -9,6 +9,5 @@ abbrev pub invariant-loop-k : goal.invariant-loop-k
 invariant-loop-k g l =
     let m = g.P.Part.meaning l.initial.part in
     LookedBy g.P.Part (cond (free (protected_at m) m.shape.sectors) 0 (64 * (l.k * m.shape.pages))) l.initial.part l.part
-    × (g.P.Part.intact l.initial.part
-    → (a : ℕ) → a < l.k * l.pages * 64
+    × ((a : ℕ) → a < l.k * l.pages * 64
     → Barred m.shape (protected_at m) m.image (wanted m l.write.address l.write.bytes.now) a → ⊥)

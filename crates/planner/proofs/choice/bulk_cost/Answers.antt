@@ -23,6 +23,6 @@ returns-clause-value g c =
     let a = c.args.write.address in
     let b = c.args.write.bytes.now in
     let e : c.sectors.result * c.pages.result ≡ m.shape.sectors * m.shape.pages = ap₂ (λ x y. x * y) c.sectors.ensures c.pages.ensures in
-    λ h t.
-    c.erase_costs.ensures.value h (t ∙ (on_flat m a b ∙ ap (λ n. on_from m a b 0 n) (sym e)))
+    λ t.
+    c.erase_costs.ensures.value (t ∙ (on_flat m a b ∙ ap (λ n. on_from m a b 0 n) (sym e)))
     ∙ (ap (below c.args.limit) (ap (λ n. erased_from m a b 0 n) e ∙ bulk_flat m a b) ∙ sym (cond-true _ _ _ (sym c.if-not-is_free.ensures)))

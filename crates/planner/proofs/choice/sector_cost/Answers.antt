@@ -36,21 +36,19 @@ returns-in-Some g c =
     let erase = c.in-Some.ensures in
     let e = c.pages-pages.ensures in
     let low = c.requires.0.sound.low in
-    let both : g.P.Part.intact c.args.part.now
-    → ◌≡◌ {A = Bool × (ℕ × ℕ)} (true, c.in-Some.cost) (erases m a b k, sector_cost fewest m.shape (kept m a b) (preset m a b) k) =
-    λ h.
-    chosen m a b k p c.touched_costs-kept.result.cost (erased_from m' a b (k * p) p) (true, c.in-Some.cost) e (touched.kept h)
+    let both : ◌≡◌ {A = Bool × (ℕ × ℕ)} (true, c.in-Some.cost) (erases m a b k, sector_cost fewest m.shape (kept m a b) (preset m a b) k) =
+    chosen m a b k p c.touched_costs-kept.result.cost (erased_from m' a b (k * p) p) (true, c.in-Some.cost) e touched.kept
     (ap (λ n. erased_from n a b (k * p) p) touched.looked.same)
     (chose_second c.touched_costs-kept.result.cost _ c.in-Some.cost
-    (erase.value (touched.looked.keeps h) (touched.presets h ∙ ap (λ n. on_from n a b (k * p) p) (sym touched.looked.same)))) in
+    (erase.value (touched.presets ∙ ap (λ n. on_from n a b (k * p) p) (sym touched.looked.same)))) in
     record {
       looked = looked_join g.P.Part g.met.P.Part.joins _ _ _ _ _ _ touched.looked erase.looked (omega (arith, on_and_off a b (k * p) p, e));
       bound =
           let b = erase.bound p touched.bound.1 in
           ((omega (arith, b, low, e), omega (arith, b, low, e)), (omega (arith, touched.bound, low, e), omega (arith, touched.bound, low, e)));
-      pages = λ h. ap (λ (x : Bool × (ℕ × ℕ)). cond x.0 Erased Kept) (both h);
-      value = λ h. ap (λ (x : Bool × (ℕ × ℕ)). x.1) (both h);
-      touched = λ h. touched.presets h ∙ ap (λ n. on_from m a b (k * n) n) e;
+      pages = ap (λ (x : Bool × (ℕ × ℕ)). cond x.0 Erased Kept) both;
+      value = ap (λ (x : Bool × (ℕ × ℕ)). x.1) both;
+      touched = touched.presets ∙ ap (λ n. on_from m a b (k * n) n) e;
     }
 
 pub returns-in-None : goal.returns-in-None
@@ -65,17 +63,15 @@ returns-in-None g c =
     let erase = c.in-None.ensures in
     let e = c.pages-pages.ensures in
     let low = c.requires.0.sound.low in
-    let both : g.P.Part.intact c.args.part.now
-    → ◌≡◌ {A = Bool × (ℕ × ℕ)} (false, c.touched_costs-kept.result.cost) (erases m a b k, sector_cost fewest m.shape (kept m a b) (preset m a b) k) =
-    λ h.
-    chosen m a b k p c.touched_costs-kept.result.cost (erased_from m' a b (k * p) p) (false, c.touched_costs-kept.result.cost) e (touched.kept h)
+    let both : ◌≡◌ {A = Bool × (ℕ × ℕ)} (false, c.touched_costs-kept.result.cost) (erases m a b k, sector_cost fewest m.shape (kept m a b) (preset m a b) k) =
+    chosen m a b k p c.touched_costs-kept.result.cost (erased_from m' a b (k * p) p) (false, c.touched_costs-kept.result.cost) e touched.kept
     (ap (λ n. erased_from n a b (k * p) p) touched.looked.same)
     (chose_first c.touched_costs-kept.result.cost _
-    (erase.value (touched.looked.keeps h) (touched.presets h ∙ ap (λ n. on_from n a b (k * p) p) (sym touched.looked.same)))) in
+    (erase.value (touched.presets ∙ ap (λ n. on_from n a b (k * p) p) (sym touched.looked.same)))) in
     record {
       looked = looked_join g.P.Part g.met.P.Part.joins _ _ _ _ _ _ touched.looked erase.looked (omega (arith, on_and_off a b (k * p) p, e));
       bound = ((omega (arith, touched.bound, low, e), omega (arith, touched.bound, low, e)), (omega (arith, touched.bound, low, e), omega (arith, touched.bound, low, e)));
-      pages = λ h. ap (λ (x : Bool × (ℕ × ℕ)). cond x.0 Erased Kept) (both h);
-      value = λ h. ap (λ (x : Bool × (ℕ × ℕ)). x.1) (both h);
-      touched = λ h. touched.presets h ∙ ap (λ n. on_from m a b (k * n) n) e;
+      pages = ap (λ (x : Bool × (ℕ × ℕ)). cond x.0 Erased Kept) both;
+      value = ap (λ (x : Bool × (ℕ × ℕ)). x.1) both;
+      touched = touched.presets ∙ ap (λ n. on_from m a b (k * n) n) e;
     }

@@ -33,17 +33,14 @@ loop-k-preserved g c =
       looked_join g.P.Part g.met.P.Part.joins _ _ _ _ _ _ inv.0 sector.looked (omega (arith, mul_more k m.shape.pages, ap (λ (x : Meaning). x.shape.pages) inv.0.same)),
       (omega (arith, inv.1, sector.bound, cost.0), omega (arith, inv.1, sector.bound, cost.1)),
       (omega (arith, inv.2, sector.bound, presets.0), omega (arith, inv.2, sector.bound, presets.1)),
-      λ h.
-          c.add_assign.ensures.after.0
-          ∙ ap₂ (λ x y. fewest.plus x y) (inv.3 h)
-          (sector.value (inv.0.keeps h) ∙ ap (λ x. sector_cost fewest x.shape (kept x a b) (preset x a b) k) inv.0.same)
+      c.add_assign.ensures.after.0
+          ∙ ap₂ (λ x y. fewest.plus x y) inv.3
+          (sector.value ∙ ap (λ x. sector_cost fewest x.shape (kept x a b) (preset x a b) k) inv.0.same)
           ∙ sym (sum_more fewest k (sector_cost fewest m.shape (kept m a b) (preset m a b))),
-      λ h.
-          marked c.loop-k.marks (sector_pages m a b) k c.sector_cost-sector.result.pages (omega arith)
-          (sector.pages (inv.0.keeps h) ∙ ap (λ x. sector_pages x a b k) inv.0.same) (inv.4 h),
-      λ h.
-          c.add_assign.ensures.after.1
-          ∙ ap₂ (λ x y. fewest.plus x y) (inv.5 h)
-          (sector.touched (inv.0.keeps h) ∙ ap (λ x. over_sector fewest x.shape (preset_on x a b) k) inv.0.same)
+      marked c.loop-k.marks (sector_pages m a b) k c.sector_cost-sector.result.pages (omega arith)
+          (sector.pages ∙ ap (λ x. sector_pages x a b k) inv.0.same) inv.4,
+      c.add_assign.ensures.after.1
+          ∙ ap₂ (λ x y. fewest.plus x y) inv.5
+          (sector.touched ∙ ap (λ x. over_sector fewest x.shape (preset_on x a b) k) inv.0.same)
           ∙ sym (sum_more fewest k (over_sector fewest m.shape (preset_on m a b))),
     )

@@ -14,6 +14,6 @@ invariant-loop-k g l =
     let b = l.write.bytes.now in
     LookedBy g.P.Part (64 * (l.k * m.shape.pages)) l.initial.part l.part
     × UpTo (4097 * l.k) l.costs.cost × UpTo (2048 * l.k) l.costs.presets
-    × (g.P.Part.intact l.initial.part → l.costs.cost ≡ sum_to fewest l.k (sector_cost fewest m.shape (kept m a b) (preset m a b)))
-    × (g.P.Part.intact l.initial.part → (i : ℕ) → i < l.k → get_or l.marks i Kept ≡ sector_pages m a b i)
-    × (g.P.Part.intact l.initial.part → l.costs.presets ≡ sum_to fewest l.k (over_sector fewest m.shape (preset_on m a b)))
+    × (l.costs.cost ≡ sum_to fewest l.k (sector_cost fewest m.shape (kept m a b) (preset m a b)))
+    × ((i : ℕ) → i < l.k → get_or l.marks i Kept ≡ sector_pages m a b i)
+    × (l.costs.presets ≡ sum_to fewest l.k (over_sector fewest m.shape (preset_on m a b)))

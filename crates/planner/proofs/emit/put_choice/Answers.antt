@@ -4,12 +4,12 @@ use Rattle.planner.proofs.emit.put_choice.Goals as goal
 
 pub returns-in-All-clause-sent : goal.returns-in-All-clause-sent
 returns-in-All-clause-sent g c =
-    sent_as _ _ _ _ _ _ (λ h. h.0)
-    (λ h. bulk_is (g.P.Part.meaning c.args.part.now) c.requires.sound c.args.write.address c.args.write.bytes.now c.args.choice.now h.1 c.in-All.is)
+    sent_as _ _ _ _
+    (bulk_is (g.P.Part.meaning c.args.part.now) c.requires.fitting.sound c.args.write.address c.args.write.bytes.now c.args.choice.now c.requires.chosen c.in-All.is)
     c.put_bulk.ensures.sent
 
 pub returns-in-Sectors-clause-sent : goal.returns-in-Sectors-clause-sent
 returns-in-Sectors-clause-sent g c =
-    sent_as _ _ _ _ _ _ (λ h. h.0)
-    (λ h. sectors_are (g.P.Part.meaning c.args.part.now) c.requires.sound c.args.write.address c.args.write.bytes.now c.args.choice.now h.1 c.in-Sectors.marks c.in-Sectors.is)
+    sent_as _ _ _ _
+    (sectors_are (g.P.Part.meaning c.args.part.now) c.requires.fitting.sound c.args.write.address c.args.write.bytes.now c.args.choice.now c.requires.chosen c.in-Sectors.marks c.in-Sectors.is)
     c.put_sectors.ensures.sent

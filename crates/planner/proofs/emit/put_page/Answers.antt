@@ -12,9 +12,8 @@ returns-then-touches-clause-sent g c =
     let a = c.args.write.address in
     let b = c.args.write.bytes.now in
     let pages = c.both_pages.ensures in
-    sent_as _ _ _ _ _ _ (λ _. tt)
-    (λ h.
-    kept_are c.args.q m.image (wanted m a b) c.both_pages.result.0 c.both_pages.result.1 c.kept_kind-kind.result (pages.old h) (pages.new h) c.kept_kind-kind.ensures
+    sent_as _ _ _ _
+    (kept_are c.args.q m.image (wanted m a b) c.both_pages.result.0 c.both_pages.result.1 c.kept_kind-kind.result pages.old pages.new c.kept_kind-kind.ensures
     ∙ ap (λ p. page_list m a b p c.args.q) (sym c.in-Kept.is))
     c.put_page.ensures
 
@@ -23,19 +22,17 @@ returns-else-touches-clause-sent g c =
     let m = g.P.Part.meaning c.args.part.now in
     let a = c.args.write.address in
     let b = c.args.write.bytes.now in
-    sent_as _ _ _ _ _ _ (λ h. h)
-    (λ _.
-    sym (cycles_off m c.args.q c.requires.1 a b c.requires.0 (sym c.if-touches.ensures))
+    sent_as _ _ _ _
+    (sym (cycles_off m c.args.q c.requires.1 a b c.requires.0 (sym c.if-touches.ensures))
     ∙ ap (λ p. page_list m a b p c.args.q) (sym c.in-Kept.is))
-    (sent_none (g.P.Part.intact c.args.part.now) c.args.sheet.now)
+    (sent_none c.args.sheet.now)
 
 pub returns-in-Erased-clause-sent : goal.returns-in-Erased-clause-sent
 returns-in-Erased-clause-sent g c =
     let m = g.P.Part.meaning c.args.part.now in
     let a = c.args.write.address in
     let b = c.args.write.bytes.now in
-    sent_as _ _ _ _ _ _ (λ _. tt)
-    (λ h.
-    presets_are c.args.q (wanted m a b) _ c.wanted_page-new.result refl (c.wanted_page-new.ensures.bytes h)
+    sent_as _ _ _ _
+    (presets_are c.args.q (wanted m a b) _ c.wanted_page-new.result refl c.wanted_page-new.ensures.bytes
     ∙ ap (λ p. page_list m a b p c.args.q) (sym c.in-Erased.is))
     c.put_page-in-Erased.ensures

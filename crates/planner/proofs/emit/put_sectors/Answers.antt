@@ -22,7 +22,7 @@ loop-k-preserved g c =
     let mark = get_or (take c.sectors-sectors.result c.args.marks.now) k Kept in
     let f : ℕ → List Cycle = λ i. sector_list m a b (get_or c.args.marks.now i Kept) i in (
       looked_join g.P.Part g.met.P.Part.joins _ _ _ _ _ _ looked sector.looked (omega (arith, mul_more k m.shape.pages, ap (λ (x : Meaning). x.shape.pages) looked.same)),
-      sent_as _ _ _ _ _ _ (λ h. h) (λ _. sym (list_more k f))
-          (sent_join _ _ _ _ _ _ _ c.loop-k.invariant.1 looked.keeps
-          (sent_as _ _ _ _ _ _ (λ h. h) (λ _. ap (λ (x : Meaning). sector_list x a b mark k) looked.same ∙ ap (λ (e : Pages). sector_list m a b e k) (get_or-take c.sectors-sectors.result c.args.marks.now k Kept (omega (arith, length-take c.sectors-sectors.result c.args.marks.now)))) sector.sent)),
+      sent_as _ _ _ _ (sym (list_more k f))
+          (sent_join _ _ _ _ _ c.loop-k.invariant.1
+          (sent_as _ _ _ _ (ap (λ (x : Meaning). sector_list x a b mark k) looked.same ∙ ap (λ (e : Pages). sector_list m a b e k) (get_or-take c.sectors-sectors.result c.args.marks.now k Kept (omega (arith, length-take c.sectors-sectors.result c.args.marks.now)))) sector.sent)),
     )

@@ -9,6 +9,5 @@ use Rattle.planner.proofs.emit.put_sectors.Given as goal
 abbrev pub invariant-loop-k : goal.invariant-loop-k
 invariant-loop-k g l =
     LookedBy g.P.Part (64 * (l.k * (g.P.Part.meaning l.initial.part).shape.pages)) l.initial.part l.part
-    × Sent (g.P.Part.intact l.initial.part)
-    (list_to l.k (λ i. sector_list (g.P.Part.meaning l.initial.part) l.write.address l.write.bytes.now (get_or l.marks i Kept) i))
+    × Sent (list_to l.k (λ i. sector_list (g.P.Part.meaning l.initial.part) l.write.address l.write.bytes.now (get_or l.marks i Kept) i))
     l.initial.sheet l.sheet

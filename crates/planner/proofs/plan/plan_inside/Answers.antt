@@ -16,9 +16,8 @@ returns-in-Some-clause-answer g c =
     let a = c.args.write.address in
     let b = c.args.write.bytes.now in
     let F = c.requires.fitting in
-    λ h.
     handed_barred m F.sound a b _ _ _ _ _ _ c.in-Some.place
-    (lowest_is m F.sound a b F c.requires.byte (Some c.in-Some.place) (c.in-Some.ensures.value h)) refl refl
+    (lowest_is m F.sound a b F c.requires.byte (Some c.in-Some.place) c.in-Some.ensures.value) refl refl
 
 pub returns-then-cycles-steps-clause-looked : goal.returns-then-cycles-steps-clause-looked
 returns-then-cycles-steps-clause-looked g c =
@@ -32,9 +31,8 @@ returns-then-cycles-steps-clause-answer g c =
     let b = c.args.write.bytes.now in
     let F = c.requires.fitting in
     let low = c.in_default.ensures in
-    λ h.
-    let chosen = subst (λ (x : Meaning). Chosen x a b c.choose-choice.result) low.looked.same (c.choose-choice.ensures.value (low.looked.keeps h)) in
-    handed_steps m F.sound a b _ _ _ _ _ _ (lowest_is m F.sound a b F c.requires.byte None (low.value h)) c.choose-choice.result.cost
+    let chosen = subst (λ (x : Meaning). Chosen x a b c.choose-choice.result) low.looked.same c.choose-choice.ensures.value in
+    handed_steps m F.sound a b _ _ _ _ _ _ (lowest_is m F.sound a b F c.requires.byte None low.value) c.choose-choice.result.cost
     (cost_is m F.sound a b c.choose-choice.result chosen) c.if-cycles-steps.true refl refl
 
 pub returns-then-sent-data-clause-looked : goal.returns-then-sent-data-clause-looked
@@ -49,9 +47,8 @@ returns-then-sent-data-clause-answer g c =
     let b = c.args.write.bytes.now in
     let F = c.requires.fitting in
     let low = c.in_default.ensures in
-    λ h.
-    let chosen = subst (λ (x : Meaning). Chosen x a b c.choose-choice.result) low.looked.same (c.choose-choice.ensures.value (low.looked.keeps h)) in
-    handed_data m F.sound a b _ _ _ _ _ _ (lowest_is m F.sound a b F c.requires.byte None (low.value h)) c.choose-choice.result.cost
+    let chosen = subst (λ (x : Meaning). Chosen x a b c.choose-choice.result) low.looked.same c.choose-choice.ensures.value in
+    handed_data m F.sound a b _ _ _ _ _ _ (lowest_is m F.sound a b F c.requires.byte None low.value) c.choose-choice.result.cost
     (cost_is m F.sound a b c.choose-choice.result chosen) c.if-cycles-steps.false c.if-sent-data.true refl refl
 
 pub returns-clause-looked : goal.returns-clause-looked
@@ -76,14 +73,13 @@ returns-clause-answer g c =
     let same = ch.looked.same ∙ low.looked.same in
     let n₀ : length (take n steps) ≡ n = simp length-take (omega arith) in
     let d₀ : length (take d sent) ≡ d = simp length-take (omega arith) in
-    λ h.
-    let chosen = subst (λ (x : Meaning). Chosen x a b c.choose-choice.result) low.looked.same (ch.value (low.looked.keeps h)) in
+    let chosen = subst (λ (x : Meaning). Chosen x a b c.choose-choice.result) low.looked.same ch.value in
     let e = cost_is m F.sound a b c.choose-choice.result chosen in
     let u : length (steps_of (plan_list m a b)) ≡ n = sym (ap (λ (y : ℕ × ℕ). y.0) (e ∙ plan-counts m F.sound a b)) in
     let v : length (data_of (plan_list m a b)) ≡ d = sym (ap (λ (y : ℕ × ℕ). y.1) (e ∙ plan-counts m F.sound a b)) in
     let s = subst (λ (x : Meaning). Laid (plan_list x a b) (take n steps) c.put_plan.new.steps (take d sent) c.put_plan.new.data) same
-    (c.put_plan.ensures.laid (ch.looked.keeps (low.looked.keeps h)) (subst (λ (x : Meaning). Chosen x a b c.choose-choice.result) (sym same) chosen)) in
+    c.put_plan.ensures.laid in
     let p = put_all (plan_list m a b) (take n steps) c.put_plan.new.steps (take d sent) c.put_plan.new.data n d n₀ d₀ u v s in
-    handed_plan m F.sound a b _ _ steps _ sent _ (lowest_is m F.sound a b F c.requires.byte None (low.value h)) c.choose-choice.result.cost
+    handed_plan m F.sound a b _ _ steps _ sent _ (lowest_is m F.sound a b F c.requires.byte None low.value) c.choose-choice.result.cost
     e c.if-cycles-steps.false c.if-sent-data.false
     (ap₂ (λ x k. x ++ drop k steps) p.0 (sym u)) (ap₂ (λ x k. x ++ drop k sent) p.1 (sym v))

@@ -53,7 +53,7 @@ pub returns-in_err-map_err : goal.returns-in_err-map_err
 returns-in_err-map_err g c =
     let p = polled_out g.P.Part g.met.P.Part.stays g.met.P.Part.joins c.args.part.now c.wait.new.part c.args.limit c.if-not-wait.ensures.idle c.if-not-wait.ensures.polls in
     let k = c.loop-i.i-counter in
-    let u = unsent _ c.send.result c.map_err.result _ k _ c.map_err.ensures.cases c.in_err-map_err.was (λ e f h. search rules) (c.send.ensures c.loop-i.invariant.1) in
+    let u = unsent _ c.send.result c.map_err.result _ k _ c.map_err.ensures.cases c.in_err-map_err.was (λ e f h. search rules) c.send.ensures in
     let is : c.from_residual.result ≡ Err (Refused k u.0) = search rules in
     let x : Ran g.P.Part c.args.data.now c.args.limit c.args.steps.now c.args.part.now c.send.new.part (Err (Refused k u.0)) =
     refused (grind (arith, nat_tests)) p.0 p.1 k _ u.0 c.loop-i-test.true (take_more c.args.steps.now k _ c.loop-i-test.true) c.loop-i.invariant.0 c.loop-i.invariant.1 u.2 in
@@ -64,13 +64,13 @@ returns-then-not-wait-2 g c =
     let p = polled_out g.P.Part g.met.P.Part.stays g.met.P.Part.joins c.args.part.now c.wait.new.part c.args.limit c.if-not-wait.ensures.idle c.if-not-wait.ensures.polls in
     let q = polled-short g.P.Part g.met.P.Part.stays g.met.P.Part.joins c.send.new.part c.wait-in-loop-i.new.part c.args.limit c.if-not-wait-2.ensures.idle c.if-not-wait-2.ensures.polls in
     let x : Ran g.P.Part c.args.data.now c.args.limit c.args.steps.now c.args.part.now c.wait-in-loop-i.new.part (Err (Abandoned (c.loop-i.i-counter + 1))) =
-    abandoned (grind (arith, nat_tests)) p.0 p.1 c.loop-i.i-counter _ c.loop-i-test.true (take_more c.args.steps.now c.loop-i.i-counter _ c.loop-i-test.true) c.loop-i.invariant.0 c.loop-i.invariant.1 (sent _ c.send.result c.map_err.result _ _ c.map_err.ensures.cases c.in_ok-map_err.was (c.send.ensures c.loop-i.invariant.1)) q.0 q.1 in
+    abandoned (grind (arith, nat_tests)) p.0 p.1 c.loop-i.i-counter _ c.loop-i-test.true (take_more c.args.steps.now c.loop-i.i-counter _ c.loop-i-test.true) c.loop-i.invariant.0 c.loop-i.invariant.1 (sent _ c.send.result c.map_err.result _ _ c.map_err.ensures.cases c.in_ok-map_err.was c.send.ensures).1 q.0 q.1 in
     record { ran = x; did = done g c.args.data.now c.args.limit c.args.steps.now c.args.part.now c.wait-in-loop-i.new.part (Err (Abandoned (c.loop-i.i-counter + 1))) x }
 
 pub loop-i-preserved : goal.loop-i-preserved
 loop-i-preserved g c =
     let q = polled_out g.P.Part g.met.P.Part.stays g.met.P.Part.joins c.send.new.part c.wait-in-loop-i.new.part c.args.limit c.if-not-wait-2.ensures.idle c.if-not-wait-2.ensures.polls in
-    let s = more c.loop-i.invariant.0 c.loop-i.invariant.1 (sent _ c.send.result c.map_err.result _ _ c.map_err.ensures.cases c.in_ok-map_err.was (c.send.ensures c.loop-i.invariant.1)) q.0 q.1 in (
+    let s = more c.loop-i.invariant.0 c.loop-i.invariant.1 (sent _ c.send.result c.map_err.result _ _ c.map_err.ensures.cases c.in_ok-map_err.was c.send.ensures).1 q.0 q.1 in (
       subst (λ l. Sends g.P.Part c.args.data.now c.args.limit c.wait.new.part l c.wait-in-loop-i.new.part) (sym (take_more c.args.steps.now c.loop-i.i-counter _ c.loop-i-test.true)) s,
       q.2,
     )

@@ -27,11 +27,11 @@ returns-then-at_most-clause-value g c =
     let L = fewest_lawful 64 in
     let start : ℕ × ℕ = fewest.plus (1, 0) c.args.presets in
     let f : ℕ → ℕ × ℕ = λ i. preset_off m a b (c.args.first + i) in
-    λ h e.
+    λ e.
     sym (cond-true _ _ _
     (subst (λ (x : ℕ × ℕ). Le fewest c.args.limit x) (erased_is m a b c.args.first n c.args.presets e)
     (L.leq_trans c.args.limit c.loop-q.cost (fewest.plus start (sum_to fewest n f)) (sym c.if-at_most.ensures)
-    (subst (λ (x : ℕ × ℕ). Le fewest x (fewest.plus start (sum_to fewest n f))) (sym (inv.3 h ∙ ap (λ x. fewest.plus x (sum_to fewest (c.loop-q.q - c.args.first) f)) c.plus-cost.ensures))
+    (subst (λ (x : ℕ × ℕ). Le fewest x (fewest.plus start (sum_to fewest n f))) (sym (inv.3 ∙ ap (λ x. fewest.plus x (sum_to fewest (c.loop-q.q - c.args.first) f)) c.plus-cost.ensures))
     (L.plus_mono start start (sum_to fewest (c.loop-q.q - c.args.first) f) (sum_to fewest n f) (L.leq_refl start) (sum-front L f n (c.loop-q.q - c.args.first) (omega arith)))))))
 
 pub loop-q-preserved : goal.loop-q-preserved
@@ -47,10 +47,9 @@ loop-q-preserved g c =
       looked_join g.P.Part g.met.P.Part.joins _ _ _ _ _ _ inv.0 page.looked (same_most _ _ (sym (off_next a b c.args.first c.loop-q.q (omega arith)))),
       omega (arith, inv.1, page.bound, sum.0),
       omega (arith, inv.2, page.bound, sum.1),
-      λ h.
-          c.plus-cost-in-loop-q.ensures
-          ∙ ap₂ (λ x y. fewest.plus x y) (inv.3 h)
-          (page.value (inv.0.keeps h) ∙ ap (λ x. preset_off x a b c.loop-q.q) inv.0.same)
+      c.plus-cost-in-loop-q.ensures
+          ∙ ap₂ (λ x y. fewest.plus x y) inv.3
+          (page.value ∙ ap (λ x. preset_off x a b c.loop-q.q) inv.0.same)
           ∙ ((fewest_lawful 64).plus_assoc start (sum_to fewest (c.loop-q.q - c.args.first) f) (preset_off m a b c.loop-q.q)
           ∙ ap (λ x. fewest.plus start x) (sym (sum_next fewest (preset_off m a b) c.args.first c.loop-q.q (omega arith)))),
     )
@@ -70,10 +69,10 @@ returns-then-at_most-2-clause-value g c =
     let b = c.args.write.bytes.now in
     let first = c.args.first in
     let j = c.loop-q.q - first in
-    λ h e.
+    λ e.
     sym (cond-true _ _ _
     (subst (λ (x : ℕ × ℕ). Le fewest c.args.limit x)
-    (ended m a b first c.args.count j c.args.presets c.loop-q.cost (omega arith) (c.loop-q.invariant.3 h ∙ ap (λ x. fewest.plus x (off_from m a b first j)) c.plus-cost.ensures) e)
+    (ended m a b first c.args.count j c.args.presets c.loop-q.cost (omega arith) (c.loop-q.invariant.3 ∙ ap (λ x. fewest.plus x (off_from m a b first j)) c.plus-cost.ensures) e)
     (sym c.if-at_most-2.ensures)))
 
 pub returns-else-at_most-2-clause-value : goal.returns-else-at_most-2-clause-value
@@ -83,7 +82,7 @@ returns-else-at_most-2-clause-value g c =
     let b = c.args.write.bytes.now in
     let first = c.args.first in
     let j = c.loop-q.q - first in
-    λ h e.
+    λ e.
     sym (cond-false _ _ _ (sym c.if-at_most-2.ensures))
     ∙ ap (below c.args.limit)
-    (ended m a b first c.args.count j c.args.presets c.loop-q.cost (omega arith) (c.loop-q.invariant.3 h ∙ ap (λ x. fewest.plus x (off_from m a b first j)) c.plus-cost.ensures) e)
+    (ended m a b first c.args.count j c.args.presets c.loop-q.cost (omega arith) (c.loop-q.invariant.3 ∙ ap (λ x. fewest.plus x (off_from m a b first j)) c.plus-cost.ensures) e)

@@ -9,4 +9,4 @@ abbrev pub invariant-loop-q : goal.invariant-loop-q
 invariant-loop-q g l =
     LookedBy g.P.Part (bytes_off l.write.address l.write.bytes.now l.first (l.q - l.first)) l.initial.part l.part
     × (l.cost.0 ≤ l.initial.cost.0 + (l.q - l.first)) × (l.cost.1 ≤ l.initial.cost.1 + 64 * (l.q - l.first))
-    × (g.P.Part.intact l.initial.part → l.cost ≡ fewest.plus l.initial.cost (off_from (g.P.Part.meaning l.initial.part) l.write.address l.write.bytes.now l.first (l.q - l.first)))
+    × (l.cost ≡ fewest.plus l.initial.cost (off_from (g.P.Part.meaning l.initial.part) l.write.address l.write.bytes.now l.first (l.q - l.first)))

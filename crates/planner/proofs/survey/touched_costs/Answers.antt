@@ -19,12 +19,10 @@ loop-q-preserved g c =
       looked_join g.P.Part g.met.P.Part.joins _ _ _ _ _ _ inv.0 page.looked (same_most _ _ (sym (on_next a b c.args.first c.loop-q.q (omega arith)))),
       (omega (arith, inv.1, page.bound, cost.0), omega (arith, inv.1, page.bound, cost.1)),
       (omega (arith, inv.2, page.bound, presets.0), omega (arith, inv.2, page.bound, presets.1)),
-      λ h.
-          c.add_assign.ensures.after.0
-          ∙ ap₂ (λ x y. fewest.plus x y) (inv.3 h) (page.kept (inv.0.keeps h) ∙ ap (λ x. kept x a b q) inv.0.same)
+      c.add_assign.ensures.after.0
+          ∙ ap₂ (λ x y. fewest.plus x y) inv.3 (page.kept ∙ ap (λ x. kept x a b q) inv.0.same)
           ∙ sym (sum_next fewest (kept m a b) c.args.first q (omega arith)),
-      λ h.
-          c.add_assign.ensures.after.1
-          ∙ ap₂ (λ x y. fewest.plus x y) (inv.4 h) (page.preset (inv.0.keeps h) ∙ ap (λ x. preset_on x a b q) inv.0.same)
+      c.add_assign.ensures.after.1
+          ∙ ap₂ (λ x y. fewest.plus x y) inv.4 (page.preset ∙ ap (λ x. preset_on x a b q) inv.0.same)
           ∙ sym (sum_next fewest (preset_on m a b) c.args.first q (omega arith)),
     )

@@ -11,5 +11,5 @@ invariant-loop-q g l =
     let b = l.write.bytes.now in
     LookedBy g.P.Part (bytes_on a b l.first (l.q - l.first)) l.initial.part l.part
     × UpTo (l.q - l.first) l.costs.cost × UpTo (l.q - l.first) l.costs.presets
-    × (g.P.Part.intact l.initial.part → l.costs.cost ≡ kept_from m a b l.first (l.q - l.first))
-    × (g.P.Part.intact l.initial.part → l.costs.presets ≡ on_from m a b l.first (l.q - l.first))
+    × (l.costs.cost ≡ kept_from m a b l.first (l.q - l.first))
+    × (l.costs.presets ≡ on_from m a b l.first (l.q - l.first))
