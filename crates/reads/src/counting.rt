@@ -27,8 +27,6 @@ impl<P: Part> Part for Counting<P> {
 
     ghost trace = { λ a b l. P.Part.trace a.inner b.inner l × (min b.asked largest ≡ min (a.asked + asked_bytes l) largest) };
 
-    ghost intact = { λ s. P.Part.intact s.inner };
-
     ghost sound = { Prim.search rules };
 
     ghost stays = { λ s. (P.Part.stays s.inner, stayed s.asked) };

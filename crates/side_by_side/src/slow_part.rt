@@ -14,9 +14,6 @@ impl Part for SlowImage {
 
     ghost trace = { Slowed };
 
-    // It has no device to be wrong about.
-    ghost intact = { λ _. Unit {0} };
-
     ghost sound = { slow-sound };
 
     ghost stays = { λ s. (none, refl) };
