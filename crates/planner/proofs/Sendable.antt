@@ -1,5 +1,6 @@
 -- A step at a part: its data make its cycle, and its refusal is the part's.
-use Rattle.std.proofs.Common.{◌≡◌, ℕ, Bool, true, false, List, Option, refl, arith}
+use Rattle.std.proofs.Common.{◌≡◌, ℕ, Bool, true, false, List, Option, refl}
+use Rattle.std.proofs.lemmas.Bool.{false≢true}
 use Rattle.memory.specs.Page.{block}
 use Rattle.part.specs.declared.fault.PartFault.{PartFault}
 use Rattle.part.specs.declared.fault.PartFault.TheVariants.{Outside, PageData}
@@ -12,7 +13,7 @@ twice : (inside held : Bool) (outside short : PartFault) (rest : Option PartFaul
     → check inside outside (check held short (check inside outside rest)) ≡ check inside outside rest
 twice true true o s r e = refl
 twice false true o s r e = refl
-twice i false o s r e = let z : ◌≡◌ {A = ℕ} 0 1 = cc in absurd (omega arith)
+twice i false o s r e = absurd (false≢true e)
 
 -- where its data lie in the buffer, a step is refused as the part refuses its cycle
 pub step-verdict : (m : Meaning) (clean : Bool) (sent : List ℕ) (s : Step) → held s.kind (lies s sent) ≡ true
