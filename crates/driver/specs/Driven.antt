@@ -19,11 +19,13 @@ use Rattle.part.specs.Meaning as of_part
 use Rattle.part.specs.Meaning.{Meaning, Event, asked, carried, polled, cycles, polls}
 use Rattle.part.specs.Outline.{outlined, guards, guarding}
 use Rattle.part.specs.Verdict.{inside, fills, presets, idle}
+use Rattle.port.proofs.Hearing.{status-heard}
+use Rattle.part.proofs.Events.{cycles-++, polls-++}
 use Rattle.part.proofs.Refusals.{reaches_in}
 use Rattle.driver.specs.Frames.{Sendable, status_frame, enable_frame, cycle_frame, looks}
 use Rattle.driver.specs.Carries.{Carries, Harmless, none, step, status_reads, carried_out}
 use Rattle.driver.specs.Driving.{Drives, Intact, Quiet, seen}
-use Rattle.driver.specs.Hearing.{one-status, status-heard, after-status}
+use Rattle.driver.specs.Hearing.{one-status, after-status}
 use Rattle.driver.specs.Seeing.{seen_outline, chip_long}
 use Rattle.driver.specs.Sending.{sendable, frames_no_status, sent-done, sent-carries, takes_in, looks_carry, looks_no_status}
 
@@ -39,18 +41,6 @@ longer a c f fs ys zs k p =
 pub carries-++ : {a b c : Chip} {l m : List Frame} {ys zs : List Cycle} → Carries a l b ys → Carries b m c zs → Carries a (l ++ m) c (ys ++ zs)
 carries-++ none q = q
 carries-++ {a} {b} {c} {l} {m} {ys} {zs} (step {f} {fs} {ys = rest} k p) q = longer a c f (fs ++ m) rest zs k (carries-++ p q)
-
-cycles-++ : (l m : List Event) → cycles (l ++ m) ≡ cycles l ++ cycles m
-cycles-++ [] m = refl
-cycles-++ (asked n ∷ l) m = cycles-++ l m
-cycles-++ (carried y ∷ l) m = ap (λ x. y ∷ x) (cycles-++ l m)
-cycles-++ (polled ∷ l) m = cycles-++ l m
-
-polls-++ : (l m : List Event) → polls (l ++ m) ≡ polls l + polls m
-polls-++ [] m = omega arith
-polls-++ (asked n ∷ l) m = polls-++ l m
-polls-++ (carried y ∷ l) m = polls-++ l m
-polls-++ (polled ∷ l) m = let e = polls-++ l m in omega arith
 
 pub status-++ : (l m : List Frame) → status_reads (l ++ m) ≡ status_reads l + status_reads m
 status-++ [] m = omega arith

@@ -1,9 +1,9 @@
 -- A chip as an outline shows it that need not be true of it: its image made to the outline's length.
-use Rattle.std.specs.Prelude.{◌≡◌, ℕ, ◌+◌, ◌-◌, ◌<◌, cond, List, ◌++◌, length, take, replicate, slice_index, refl}
-use Rattle.std.proofs.Common.{ap, ◌∙◌, ⊎_elim, arith, length-append}
-use Rattle.std.proofs.lemmas.List.{take_at, get_or-take, get_or_past, get_or_append_left, get_or-append_right, length-take-le, length-replicate}
-use Rattle.std.proofs.lemmas.Bool.{cases_lt}
+use Rattle.std.specs.Prelude.{◌≡◌, ℕ, ◌+◌, ◌<◌, cond, List, ◌++◌, length, take, replicate, slice_index, refl}
+use Rattle.std.proofs.Common.{ap, ◌∙◌, arith, lit<, length-append}
+use Rattle.std.proofs.lemmas.List.{take_at, length-take-le, length-replicate}
 use Rattle.memory.specs.Shape.{size}
+use Rattle.memory.proofs.Bounds.{bytes-append, bytes_take}
 use Rattle.memory.proofs.Loops.{byte-replicate}
 use Rattle.port.specs.Chip as of_chip
 use Rattle.port.specs.Chip.{Chip}
@@ -36,19 +36,10 @@ pub fitted_same : (n : ℕ) (l : List ℕ) → length l ≡ n → fitted n l ≡
 unfolding fitted
 fitted_same n l e = take_at l (replicate n 255) n e
 
-byte_padded : (n : ℕ) (l : List ℕ) (i : ℕ) → ((k : ℕ) → slice_index l k < 256) → slice_index (l ++ replicate n 255) i < 256
-byte_padded n l i b = ⊎_elim
-    (λ h. let e = get_or_append_left l (replicate n 255) 0 i h in omega (arith, b i))
-    (λ h. let e = get_or-append_right l (replicate n 255) (length l) i 0 refl h in
-    let f = byte-replicate n 255 (i - length l) (omega arith) in omega arith)
-    (cases_lt i (length l))
-
 pub byte-fitted : (n : ℕ) (l : List ℕ) → ((k : ℕ) → slice_index l k < 256) → (i : ℕ) → slice_index (fitted n l) i < 256
 unfolding fitted
-byte-fitted n l b i = ⊎_elim
-    (λ h. let e = get_or-take n (l ++ replicate n 255) i 0 h in omega (arith, byte_padded n l i b))
-    (λ h. let m = length-fitted n l in let e = get_or_past (take n (l ++ replicate n 255)) i 0 (omega arith) in omega arith)
-    (cases_lt i n)
+byte-fitted n l b =
+    bytes_take n (l ++ replicate n 255) (bytes-append l (replicate n 255) b (λ k. byte-replicate n 255 k (lit< tt)))
 
 pub fitted-sound : (o : Outline) (c : Chip) → of_chip.Sound c → Sound (fitted_seen o c)
 fitted-sound o c s = record {

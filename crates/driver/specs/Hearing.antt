@@ -10,8 +10,9 @@ use Rattle.port.specs.declared.instruction.Operation.TheVariants.{ReadStatus, Id
 use Rattle.port.specs.Instructions.{table, allows}
 use Rattle.port.specs.Build.{built, listed}
 use Rattle.port.specs.Chip.{Chip}
-use Rattle.port.specs.Machine.{Ask, status, identify, read, unknown, meant, heard, hears, ordered, frame, act, after, reply, answer, shown, waited, identity}
+use Rattle.port.specs.Machine.{identify, read, unknown, meant, heard, hears, ordered, frame, act, after, reply, answer, shown, waited, identity}
 use Rattle.port.proofs.Building.{understood}
+use Rattle.port.proofs.Hearing.{status-heard, status-ordered}
 use Rattle.driver.specs.Frames.{status_frame, identify_frame, read_frame}
 use Rattle.driver.specs.Carries.{carried_out, asks_status}
 use Rattle.driver.specs.Driving.{lowered}
@@ -23,18 +24,7 @@ hears-built c o a n d h p t = ap (heard c.busy (length c.image)) (understood o a
 nothing : (d : List ℕ) → false ≡ true → 0 < length d
 nothing d e = absurd (Rattle.std.proofs.lemmas.Bool.false≢true e)
 
--- a status read is heard always
-either : (b : Bool) (x : Ask) → cond b x x ≡ x
-either true x = refl
-either false x = refl
-
-status-ordered : ordered (built ReadStatus 0 []) 1 ≡ status
-unfolding table listed built
-status-ordered = refl
-
-pub status-heard : (c : Chip) → hears c status_frame ≡ status
-status-heard c = ap (heard c.busy (length c.image)) status-ordered ∙ either (c.busy == 0) status
-
+-- a status read
 pub after-status : (k : ℕ) (c : Chip) → after k c status_frame ≡ waited c
 after-status k c = ap (act k c) (status-heard c)
 

@@ -1,7 +1,7 @@
 -- The frames of a read.
 use Rattle.std.specs.Prelude.{◌≡◌, ℕ, zero, suc, ◌+◌, ◌-◌, ◌<◌, ◌≤◌, min, cond, List, [], ◌∷◌, ◌++◌, take, drop, ◌==◌, ◌≢◌, refl}
-use Rattle.std.proofs.Common.{sym, ap, ap₂, subst, ◌∙◌, ⊎_elim, arith}
-use Rattle.std.proofs.lemmas.List.{drop-drop, drop-take, take-take, take-append-drop}
+use Rattle.std.proofs.Common.{sym, ap, subst, ◌∙◌, ⊎_elim, arith, take-add}
+use Rattle.std.proofs.lemmas.List.{drop-drop}
 use Rattle.std.proofs.lemmas.Bool.{cond-true, cond-false, eq-eqb, ne_eqb, cases_lt, cases_eq}
 use Rattle.memory.specs.Page.{block}
 use Rattle.memory.specs.Cycle.{Cycle}
@@ -109,9 +109,5 @@ pub reads_no_status : (room a n : ℕ) → a + n ≤ 16777216 → status_reads (
 reads_no_status room a n h = unpolled_in n room a n h
 
 -- two blocks, one after the other
-split : (m n : ℕ) (l : List ℕ) → take (m + n) l ≡ take m l ++ take n (drop m l)
-split m n l =
-    sym (take-append-drop m (take (m + n) l)) ∙ ap₂ ◌++◌ (take-take m (m + n) l (omega arith)) (drop-take m n l)
-
 pub block_more : (a m n : ℕ) (image : List ℕ) → block a m image ++ block (a + m) n image ≡ block a (m + n) image
-block_more a m n image = ap (λ x. take m (drop a image) ++ take n x) (sym (drop-drop m a image)) ∙ sym (split m n (drop a image))
+block_more a m n image = ap (λ x. take m (drop a image) ++ take n x) (sym (drop-drop m a image)) ∙ sym (take-add m n (drop a image))

@@ -1,5 +1,5 @@
 -- The two frames of a cycle.
-use Rattle.std.specs.Prelude.{◌≡◌, ℕ, ◌*◌, ◌/◌, ◌<◌, ◌≤◌, Bool, true, false, cond, not, ◌&&◌, List, [], ◌∷◌, ◌++◌, length, ◌==◌, bit_and, nat_eq, nat_le, nat_lt, refl}
+use Rattle.std.specs.Prelude.{◌≡◌, ℕ, ◌*◌, ◌/◌, ◌≤◌, Bool, true, false, cond, not, List, [], ◌∷◌, ◌++◌, length, ◌==◌, bit_and, nat_eq, nat_lt, refl}
 use Rattle.std.proofs.Common.{sym, ap, ap₂, subst, ◌∙◌, arith, lit≤}
 use Rattle.std.proofs.lemmas.Bool.{cond-true, eq-eqb, and_parts, and_from, ltb-true, leb-true, lt-ltb}
 use Rattle.memory.specs.declared.kind.Kind.{Kind}
@@ -8,6 +8,7 @@ use Rattle.memory.specs.Shape.{Shape, size, sector_at}
 use Rattle.memory.specs.Page.{page, blank}
 use Rattle.memory.specs.Protection.{protects}
 use Rattle.memory.specs.Cycle.{Cycle, cycle_of, effect, permits}
+use Rattle.memory.proofs.Cycles.{fits_page_facts}
 use Rattle.memory.specs.Image.{reaches}
 use Rattle.port.specs.declared.instruction.Operation.TheVariants.{WriteEnable, Program, Alter, Preset, SectorErase}
 use Rattle.port.specs.Instructions.{table}
@@ -15,6 +16,7 @@ use Rattle.port.specs.Build.{built, listed}
 use Rattle.port.specs.Chip.{Chip, shape}
 use Rattle.port.specs.Machine.{enable, cycle, unknown, heard, hears, ordered, act, after, done, latched, takes}
 use Rattle.port.proofs.Building.{understood}
+use Rattle.port.proofs.Hearing.{enable-heard, enable-ordered}
 use Rattle.part.specs.declared.outline.Outline.{Outline}
 use Rattle.part.specs.Outline.{outlined, guarding}
 use Rattle.part.specs.Verdict.{inside, fills, presets}
@@ -36,29 +38,15 @@ sendable o of_kind.Preset a n i f = (inside_most o a i, f)
 sendable o of_kind.SectorErase a n i f = (inside_most o a i, refl)
 sendable o of_kind.BulkErase a n i f = (refl, refl)
 
-pub length-enable : length (built WriteEnable 0 []) ≡ 1
-unfolding table listed built
-length-enable = refl
-
-page_at_most : (n : ℕ) → (nat_lt 0 n && nat_le n 64) ≡ true → n ≤ 64
-page_at_most n e = leb-true _ _ (and_parts _ _ e).1
-
-page_some : (n : ℕ) → (nat_lt 0 n && nat_le n 64) ≡ true → 0 < n
-page_some n e = ltb-true _ _ (and_parts _ _ e).0
-
 pub length-cycle : (kind : Kind) (a : ℕ) (sent : List ℕ) → fills largest kind (length sent) ≡ true → length (built (operation_of kind) a sent) ≤ 68
 unfolding table listed built
-length-cycle of_kind.Program a sent f = let m = page_at_most (length sent) f in omega arith
-length-cycle of_kind.Alter a sent f = let m = page_at_most (length sent) f in omega arith
-length-cycle of_kind.Preset a sent f = let m = page_at_most (length sent) f in omega arith
+length-cycle of_kind.Program a sent f = let m = (fits_page_facts largest sent f).1 in omega arith
+length-cycle of_kind.Alter a sent f = let m = (fits_page_facts largest sent f).1 in omega arith
+length-cycle of_kind.Preset a sent f = let m = (fits_page_facts largest sent f).1 in omega arith
 length-cycle of_kind.SectorErase a sent f = lit≤ tt
 length-cycle of_kind.BulkErase a sent f = lit≤ tt
 
 -- write enable
-enable-ordered : ordered (built WriteEnable 0 []) 0 ≡ enable
-unfolding table listed built
-enable-ordered = refl
-
 enabled : (x : Bool) (k : ℕ) (c : Chip) → act k c (cond x enable unknown) ≡ act 0 c (cond x enable unknown)
 enabled true k c = refl
 enabled false k c = refl
@@ -68,15 +56,12 @@ after-enable k c =
     ap (λ o. act k c (heard c.busy (length c.image) o)) enable-ordered ∙ enabled (c.busy == 0) k c
     ∙ sym (ap (λ o. act 0 c (heard c.busy (length c.image) o)) enable-ordered)
 
-enable-heard : (c : Chip) → c.busy ≡ 0 → hears c enable_frame ≡ enable
-enable-heard c b = ap (heard c.busy (length c.image)) enable-ordered ∙ cond-true _ _ _ (eq-eqb _ _ b)
-
 -- the frame of the cycle
 cycle-ordered : (kind : Kind) (a : ℕ) (sent : List ℕ) → Sendable kind a (length sent) → ordered (built (operation_of kind) a sent) 0 ≡ cycle (cycle_of kind a sent)
 unfolding table listed built
-cycle-ordered of_kind.Program a sent s = understood Program a 0 sent (ltb-true _ _ s.0) (λ _. page_some (length sent) s.1)
-cycle-ordered of_kind.Alter a sent s = understood Alter a 0 sent (ltb-true _ _ s.0) (λ _. page_some (length sent) s.1)
-cycle-ordered of_kind.Preset a sent s = understood Preset a 0 sent (ltb-true _ _ s.0) (λ _. page_some (length sent) s.1)
+cycle-ordered of_kind.Program a sent s = understood Program a 0 sent (ltb-true _ _ s.0) (λ _. (fits_page_facts largest sent s.1).0)
+cycle-ordered of_kind.Alter a sent s = understood Alter a 0 sent (ltb-true _ _ s.0) (λ _. (fits_page_facts largest sent s.1).0)
+cycle-ordered of_kind.Preset a sent s = understood Preset a 0 sent (ltb-true _ _ s.0) (λ _. (fits_page_facts largest sent s.1).0)
 cycle-ordered of_kind.SectorErase a sent s = understood SectorErase a 0 sent (ltb-true _ _ s.0) (λ e. absurd (Rattle.std.proofs.lemmas.Bool.false≢true e))
 cycle-ordered of_kind.BulkErase a sent s = refl
 

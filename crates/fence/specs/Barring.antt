@@ -1,14 +1,17 @@
 -- Cycles that closed sectors bar, and those that they let pass.
 use Rattle.std.specs.Prelude.{◌≡◌, ℕ, ◌<◌, Bool, true, false, cond, not, ◌&&◌, ◌||◌, List, length, Some, None, Ok, Err, Result, unwrap_or, nat_le, nat_lt, refl}
-use Rattle.std.proofs.Common.{sym, ap, ap₂, ◌∙◌, arith, div-lt_iff_lt-mul}
-use Rattle.std.proofs.lemmas.Bool.{cond-true, cond-false, ltb-true, not-true, not-false, not_from_true}
+use Rattle.std.proofs.Common.{sym, ap, ap₂, ◌∙◌, arith}
+use Rattle.std.proofs.Math.Bool.{not-not}
+use Rattle.std.proofs.lemmas.Bool.{true≢false, cond-true, cond-false, ltb-true, not-true, not-false, not_from_true}
 use Rattle.memory.specs.declared.kind.Kind.{Kind}
 use Rattle.memory.specs.declared.kind.Kind.TheVariants.{Program, Alter, Preset, SectorErase, BulkErase}
 use Rattle.memory.specs.Shape.{Shape, shaped, size, sector_at}
 use Rattle.memory.specs.Cycle.{permits}
+use Rattle.memory.proofs.Pages.{page_and_sector}
 use Rattle.part.specs.declared.fault.PartFault.{PartFault}
 use Rattle.part.specs.declared.fault.PartFault.TheVariants.{Outside, NoSector, PageData, Busy, Protected, NotBlank}
 use Rattle.part.specs.Meaning.{Meaning, Sound, protected_at}
+use Rattle.part.proofs.Sounds.{real}
 use Rattle.part.specs.Verdict.{check, inside, fills, presets, barred, form_refusal, idle, verdict_if, protection}
 use Rattle.fence.specs.Closed.{fenced, is_closed, bars, barred_by}
 use Rattle.fence.specs.Marks.{length-either, either_at, either-closed, either_open, free_open, free-closed}
@@ -42,14 +45,10 @@ module _ (m : Shape) (idle : Bool) (kind : Kind) (address n : ℕ) where
       first true false d x y z v = refl
       first false f d x y z v = refl
 
-not_not : (b : Bool) → not (not b) ≡ b
-not_not true = refl
-not_not false = refl
-
 -- the four checks, of which the last fails wherever the first passes
 stopped : (i f d p b : Bool) (x y z v w : PartFault) → (i ≡ true → p ≡ false)
     → check i x (check f y (check d z (check p v (check b w None)))) ≡ Some (cond i (cond f (cond d v z) y) x)
-stopped true true true true b x y z v w h = let q : true ≡ false = h refl in let o : ◌≡◌ {A = ℕ} 0 1 = cc in absurd (omega arith)
+stopped true true true true b x y z v w h = absurd (true≢false (h refl))
 stopped true true true false b x y z v w h = refl
 stopped true true false p b x y z v w h = refl
 stopped true false d p b x y z v w h = refl
@@ -57,10 +56,7 @@ stopped false f d p b x y z v w h = refl
 
 -- the sector of an address that is inside is there
 pub sector_in : (m : Meaning) → Sound m → (address : ℕ) → nat_lt address (size m.shape) ≡ true → sector_at m.shape address < length m.guarded
-sector_in m S address h =
-    let b : 0 < m.shape.bytes = omega (arith, S.page) in
-    let p : 0 < m.shape.pages = omega (arith, S.paged) in
-    omega (arith, S.each, (div-lt_iff_lt-mul p).1 ((div-lt_iff_lt-mul b).1 (ltb-true _ _ h)))
+sector_in m S address h = omega (arith, S.each, (page_and_sector m.shape (real m S) address (ltb-true _ _ h)).1)
 
 module _ (m : Meaning) (S : Sound m) (closed : List Bool) where
   -- a sector is protected if the part protects it or it is closed
@@ -108,7 +104,7 @@ module _ (m : Meaning) (S : Sound m) (closed : List Bool) where
       ∙ ap Some
       (barred-form m.shape (idle m) kind address (length sent) S.page
       ∙ ap (λ o. unwrap_or o (Protected (barred kind address)))
-      (sym (e ∙ ap₂ (λ x y. form_refusal x y kind address (length sent)) s (ap not i ∙ not_not (idle m)))))
+      (sym (e ∙ ap₂ (λ x y. form_refusal x y kind address (length sent)) s (ap not i ∙ not-not (idle m)))))
 
   open_permits :
       (kind : Kind) (address : ℕ) → bars m.shape closed kind address ≡ false

@@ -1,5 +1,5 @@
 -- The window is what its words say, and the only run that is.
-use Rattle.std.proofs.Common.{◌≡◌, ℕ, pred, ◌+◌, ◌<◌, ◌≤◌, min, List, [], ◌∷◌, length, get_or, Some, None, Option, sym, refl, subst, ap₂, ⊎_elim, le_trans, arith}
+use Rattle.std.proofs.Common.{◌≡◌, ℕ, pred, ◌<◌, ◌≤◌, min, List, [], ◌∷◌, length, get_or, Some, None, Option, sym, refl, subst, ap₂, ⊎_elim, le_trans, zero-add, arith}
 use Rattle.std.proofs.lemmas.Bool.{cases_lt, cases_eq}
 use Rattle.least.specs.Window.{changes, behind, span, least_at, covering, window, Covers, Shortest, Windowed}
 use Rattle.least.proofs.Spans.{least_at-le, least_at_at, least_at-lowest, behind-lt, span_some, span-le, span-covers, changes_none}
@@ -11,18 +11,12 @@ module _ (z : ℕ) (old new : List ℕ) (e : min (length old) (length new) ≡ z
   -- the run from place a that the changes need is no longer than one that covers them
   needed : (a n : ℕ) → Covers z old new a n → span z a (changes 0 old new) ≤ n
   needed a n c =
-      span-le z a n 0 old new (λ i l k d. subst (λ y. behind z a y < n) (first i) (c i (omega arith) d))
-    where
-      first : (i : ℕ) → i ≡ 0 + i
-      first i = omega arith
+      span-le z a n 0 old new (λ i l k d. subst (λ y. behind z a y < n) (sym (zero-add i)) (c i (omega arith) d))
 
   covered : (a : ℕ) → Covers z old new a (span z a (changes 0 old new))
   covered a i l d =
       let k = inside i l in
-      subst (λ y. behind z a y < span z a (changes 0 old new)) (first i) (span-covers z a 0 old new i k.0 k.1 d)
-    where
-      first : (i : ℕ) → 0 + i ≡ i
-      first i = omega arith
+      subst (λ y. behind z a y < span z a (changes 0 old new)) (zero-add i) (span-covers z a 0 old new i k.0 k.1 d)
 
   words : (ds : List ℕ) → changes 0 old new ≡ ds → Windowed z old new (covering z ds)
   words [] t = λ i l. let k = inside i l in changes_none 0 old new t i k.0 k.1

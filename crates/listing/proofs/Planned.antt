@@ -13,7 +13,7 @@ use Rattle.port.specs.declared.instruction.Instruction.{Instruction}
 use Rattle.port.specs.Instructions.{table}
 use Rattle.port.specs.Build.{built, listed, carried_by}
 use Rattle.port.specs.Operations.{operation_of}
-use Rattle.port.proofs.Building.{length-built}
+use Rattle.port.proofs.Building.{length-built, length-enable}
 use Rattle.least.specs.declared.step.Step.{Step}
 use Rattle.least.specs.Steps.{step_cycle, cycles_of, sent_by}
 use Rattle.listing.specs.declared.plan_fault.PlanListingFault.{PlanListingFault}
@@ -60,10 +60,6 @@ frame-size kind i a s e =
     let c : length (carried_by i.carries (sent_by (cycle_of kind a s))) ≡ length (sent_by (cycle_of kind a s)) =
     ap (λ (x : Instruction). length (carried_by x.carries (sent_by (cycle_of kind a s)))) e ∙ ap length (carried-sent kind a s) in
     (omega arith, subst (λ (x : Instruction). 1 + x.address + x.dummy ≤ 4) (sym e) (head_most kind))
-
-pub enable-size : length (built of_operation.WriteEnable 0 []) ≡ 1
-unfolding table listed built
-enable-size = refl
 
 pub some_bytes : (o : Operation) (a : ℕ) (s : List ℕ) → 0 < length (built o a s)
 some_bytes o a s = let l = length-built o (listed o) a s refl in omega arith
@@ -162,7 +158,7 @@ step-size sent s =
     let f = built (operation_of s.kind) s.address (sent_by (step_cycle sent s)) in
     let t = ap length (step-text sent s) ∙ length-append (line_text enabling) (line_text (sending (step_cycle sent s))) in
     let a = line-bytes (built of_operation.WriteEnable 0 []) (some_bytes of_operation.WriteEnable 0 []) in
-    let e = enable-size in
+    let e = length-enable in
     let b = ap (λ x. length (line_text x)) (step-frame s.kind s.address (block s.place s.length sent)) ∙ line-bytes f (some_bytes (operation_of s.kind) s.address (sent_by (step_cycle sent s))) in omega arith
 
 -- the frame that is built for a step's cycle

@@ -1,5 +1,5 @@
 -- The frames of cycles, played on a chip that accepts them.
-use Rattle.std.proofs.Common.{◌≡◌, ℕ, zero, suc, ◌-◌, ◌*◌, ◌<◌, ◌≤◌, Bool, true, false, cond, not, ◌&&◌, eqb, ltb, leb, List, [], ◌∷◌, ◌++◌, length, is_some, Some, None, Option, sym, refl, ap, ◌∙◌, subst, ap₂, arith}
+use Rattle.std.proofs.Common.{◌≡◌, ℕ, zero, suc, ◌-◌, ◌*◌, ◌<◌, ◌≤◌, Bool, true, not, ◌&&◌, ltb, leb, List, [], ◌∷◌, ◌++◌, length, is_some, Some, None, Option, sym, refl, ap, ◌∙◌, subst, ap₂, arith}
 use Rattle.std.proofs.Math.Nat.{suc-ne-zero}
 use Rattle.std.proofs.lemmas.Bool.{cond-true, eq-eqb, and_parts, and_from, ltb-true, leb-true, lt-ltb, false≢true}
 use Rattle.memory.specs.Shape.{size, sector_at}
@@ -10,15 +10,16 @@ use Rattle.memory.specs.Models.{models, lookup}
 use Rattle.memory.proofs.Free.{free-protects}
 use Rattle.memory.proofs.Models.{page-bytes, known_range}
 use Rattle.memory.proofs.Pages.{Real}
-use Rattle.memory.proofs.Cycles.{length-effect}
+use Rattle.memory.proofs.Cycles.{length-effect, fits_page_facts}
 use Rattle.memory.proofs.Sizes.{product_most}
 use Rattle.port.specs.declared.instruction.Operation.TheVariants.{Program, Alter, Preset, SectorErase}
 use Rattle.port.specs.Instructions.{table}
 use Rattle.port.specs.Build.{built, listed}
 use Rattle.port.specs.Chip.{Chip, shape}
-use Rattle.port.specs.Machine.{Ask, enable, status, cycle, heard, hears, ordered, act, after, done, latched, waited, takes}
+use Rattle.port.specs.Machine.{Ask, enable, cycle, heard, hears, ordered, act, after, done, latched, waited, takes}
 use Rattle.port.specs.Laws.{starts, carried_by}
 use Rattle.port.proofs.Building.{understood}
+use Rattle.port.proofs.Hearing.{enable-heard, status-heard}
 use Rattle.port.proofs.Lawful.{cycled}
 use Rattle.listing.specs.Parts.{Exchange}
 use Rattle.listing.specs.PlanFrames.{enabling, sending, plan_frames}
@@ -57,15 +58,12 @@ module _ (c : Chip) (F : Formed c) where
   open_at : (a : ℕ) → (ltb a (size (shape c)) && not (prot c (sector_at (shape c) a))) ≡ true → (a < 16777216) × (ltb a (length c.image) ≡ true) × (not (prot c (sector_at (shape c) a)) ≡ true)
   open_at a e = let p = and_parts _ _ e in let r = reached a p.0 in (r.0, r.1, p.1)
 
-  some_data : (sent : List ℕ) → (ltb 0 (length sent) && leb (length sent) (shape c).bytes) ≡ true → 0 < length sent
-  some_data sent e = ltb-true _ _ (and_parts _ _ e).0
-
   -- the frame of an accepted cycle asks for it
   asks : (y : Cycle) → accepts (shape c) (prot c) y c.image ≡ true → ordered (sending y).sent 0 ≡ cycle y
   unfolding table listed built
-  asks (program a sent) t = let p = and_parts _ _ t in understood Program a 0 sent (open_at a p.0).0 (λ _. some_data sent p.1)
-  asks (alter a sent) t = let p = and_parts _ _ t in understood Alter a 0 sent (open_at a p.0).0 (λ _. some_data sent p.1)
-  asks (preset a sent) t = let p = and_parts _ _ (and_parts _ _ t).0 in understood Preset a 0 sent (open_at a p.0).0 (λ _. some_data sent p.1)
+  asks (program a sent) t = let p = and_parts _ _ t in understood Program a 0 sent (open_at a p.0).0 (λ _. (fits_page_facts (shape c) sent p.1).0)
+  asks (alter a sent) t = let p = and_parts _ _ t in understood Alter a 0 sent (open_at a p.0).0 (λ _. (fits_page_facts (shape c) sent p.1).0)
+  asks (preset a sent) t = let p = and_parts _ _ (and_parts _ _ t).0 in understood Preset a 0 sent (open_at a p.0).0 (λ _. (fits_page_facts (shape c) sent p.1).0)
   asks (sector_erase a) t = understood SectorErase a 0 [] (open_at a t).0 (λ e. absurd (false≢true e))
   asks bulk_erase t = refl
 
@@ -101,25 +99,6 @@ module _ (c : Chip) (F : Formed c) where
 
     cycle-done : (k : ℕ) → after k c (frame_of (sending y)) ≡ done k c (effect (shape c) y c.image)
     cycle-done k = cycled k c (frame_of (sending y)) y carries
-
--- write enable, and a status read
-enable-ordered : ordered enabling.sent 0 ≡ enable
-unfolding table listed built
-enable-ordered = refl
-
-enable-heard : (c : Chip) → c.busy ≡ 0 → hears c (frame_of enabling) ≡ enable
-enable-heard c b = ap (heard c.busy (length c.image)) enable-ordered ∙ cond-true _ _ _ (eq-eqb _ _ b)
-
-status-ordered : ordered status_read.sent 1 ≡ status
-unfolding table listed built
-status-ordered = refl
-
-always : (b : Bool) (x : Ask) → cond b x x ≡ x
-always true x = refl
-always false x = refl
-
-status-heard : (c : Chip) → hears c status_read ≡ status
-status-heard c = ap (heard c.busy (length c.image)) status-ordered ∙ always (eqb c.busy 0) status
 
 -- between two frames of a cycle it is pending
 abbrev rest : Option Cycle → List Cycle → List Exchange

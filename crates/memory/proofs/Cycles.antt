@@ -1,25 +1,16 @@
 -- What an accepted cycle leaves: lengths, the pages it writes or erases, and all else as it was.
-use Rattle.std.proofs.Common.{◌≡◌, ℕ, zero, suc, ◌+◌, ◌*◌, ◌/◌, ◌%◌, ◌<◌, ◌≤◌, Bool, true, false, ◌⊎◌, List, length, take, drop, replicate, sym, refl, ap, ◌∙◌, subst, inl, inr, ⊎_elim, mod-lt, mul_assoc, div-lt_iff_lt-mul, div-add-mod', arith, take_all}
+use Rattle.std.proofs.Common.{◌≡◌, ℕ, zero, suc, ◌+◌, ◌*◌, ◌/◌, ◌%◌, ◌<◌, ◌≤◌, Bool, true, false, ◌⊎◌, List, length, take, drop, replicate, sym, refl, ap, ◌∙◌, subst, inl, inr, ⊎_elim, mod-lt, mul_assoc, div-add-mod', arith, take_all}
 use native.Mathlib.Nat.{sub_self}
 use lib.Bits.{bit_and}
 use lib.ListN.{length-replicate}
-use Rattle.std.proofs.lemmas.Bool.{and_parts, both_ways, cases_eq, ltb-true, leb-true, not-true}
+use Rattle.std.proofs.lemmas.Bool.{and_parts, both_ways, ltb-true, leb-true, not-true}
 use Rattle.memory.specs.Shape.{Shape, sector_at}
-use Rattle.memory.specs.Protection.{free}
 use Rattle.memory.specs.Page.{block, put, page, merged, cover, written, blank}
 use Rattle.memory.specs.Cycle.{Cycle, program, alter, preset, sector_erase, bulk_erase, replacing, effect, writable, fits_page, accepts}
 use Rattle.memory.proofs.Blocks.{length-put, block-put_out, block-put_in, block-replicate, apart}
 use Rattle.memory.proofs.Covers.{length_merged}
-use Rattle.memory.proofs.Pages.{Real, Whole, page-fits, length-page, sector-fits, in_sector, out_sector, sector_of}
-
--- no sector below n is protected
-pub free_at : (prot : ℕ → Bool) (n k : ℕ) → free prot n ≡ true → k < n → prot k ≡ false
-free_at prot zero k t h = absurd (omega arith)
-free_at prot (suc n) k t h = go (cases_eq k n) (λ l. free_at prot n k (and_parts _ _ t).1 l)
-  where
-    go : (k ≡ n) ⊎ (k ≡ n → ⊥) → (k < n → prot k ≡ false) → prot k ≡ false
-    go (inl e) ih = ap prot e ∙ not-true _ (and_parts _ _ t).0
-    go (inr d) ih = let l : k < n = omega arith in ih l
+use Rattle.memory.proofs.Free.{free_at}
+use Rattle.memory.proofs.Pages.{Real, Whole, page_and_sector, page-fits, length-page, sector-fits, in_sector, out_sector, sector_of}
 
 pub blank-replicate : (n : ℕ) → blank (replicate n 255) ≡ true
 blank-replicate zero = refl
@@ -91,8 +82,7 @@ module _ (m : Shape) (R : Real m) (prot : ℕ → Bool) where
       → (address / m.bytes < m.sectors * m.pages) × (sector_at m address < m.sectors) × (prot (sector_at m address) ≡ false)
   writable_facts address t =
       let a = and_parts _ _ t in
-      let b = (div-lt_iff_lt-mul R.bytes).1 (ltb-true _ _ a.0) in
-      (b, (div-lt_iff_lt-mul R.pages).1 b, not-true _ a.1)
+      let b = page_and_sector m R address (ltb-true _ _ a.0) in (b.0, b.1, not-true _ a.1)
 
   pub length-effect :
       (c : Cycle) (image : List ℕ) → Whole m image → accepts m prot c image ≡ true → Whole m (effect m c image)

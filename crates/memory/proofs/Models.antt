@@ -1,6 +1,7 @@
 -- What holds of every known chip.
 use Rattle.std.proofs.Common.{◌≡◌, ℕ, Bool, true, false, ◌&&◌, eqb, ◌⊎◌, List, [], ◌∷◌, is_some, Some, None, Option, sym, refl, ◌∙◌, inl, inr}
-use Rattle.std.proofs.lemmas.Bool.{cases_Bool, and_parts, cond-true, cond-false}
+use Rattle.std.proofs.lemmas.Bool.{cases_Bool, and_parts, cond-true, cond-false, false≢true}
+use Rattle.std.proofs.lemmas.Option.{none-some}
 use Rattle.memory.specs.declared.model.Model.{Model}
 use Rattle.memory.specs.Image.{in_range}
 use Rattle.memory.specs.Models.{models, lookup, shape_or, shape_for}
@@ -11,7 +12,7 @@ each test (m ∷ ms) = test m && each test ms
 
 -- a test that every row passes is passed by what a look-up finds
 pub found_passes : (test : Model → Bool) (ms : List Model) (c : ℕ) (m : Model) → each test ms ≡ true → lookup ms c ≡ Some m → test m ≡ true
-found_passes test [] c m t e = let z : ◌≡◌ {A = ℕ} 0 1 = cc in absurd (omega native.Mathlib.Omega.arith)
+found_passes test [] c m t e = absurd (none-some m e)
 found_passes test (x ∷ ms) c m t e = go (cases_Bool (eqb x.capacity c)) (λ f. found_passes test ms c m (and_parts _ _ t).1 f)
   where
     go : (eqb x.capacity c ≡ true) ⊎ (eqb x.capacity c ≡ false) → (lookup ms c ≡ Some m → test m ≡ true) → test m ≡ true
@@ -35,7 +36,7 @@ page-bytes c = bytes-or (lookup models c)
 
 range_or : (o : Option Model) → ((m : Model) → o ≡ Some m → in_range m.geometry.sectors m.geometry.pages ≡ true) → is_some o ≡ true
     → in_range (shape_or o).sectors (shape_or o).pages ≡ true
-range_or None h t = let z : ◌≡◌ {A = ℕ} 0 1 = cc in absurd (omega native.Mathlib.Omega.arith)
+range_or None h t = absurd (false≢true t)
 range_or (Some m) h t = h m refl
 
 -- a known chip has 1 to 128 sectors of 1 to 2,048 pages

@@ -1,5 +1,5 @@
 -- Where the pages and sectors of an image lie.
-use Rattle.std.proofs.Common.{◌≡◌, ℕ, ◌+◌, ◌-◌, ◌*◌, ◌/◌, ◌%◌, ◌<◌, ◌≤◌, ◌⊎◌, List, length, get_or, sym, ap, ◌∙◌, subst, inl, inr, ⊎_elim, mul-le-mul_right, mod-lt, mul_assoc, add-mul, mul-zero, div-add-mod', zero-mul, arith}
+use Rattle.std.proofs.Common.{◌≡◌, ℕ, ◌+◌, ◌-◌, ◌*◌, ◌/◌, ◌%◌, ◌<◌, ◌≤◌, ◌⊎◌, List, length, get_or, sym, ap, ◌∙◌, subst, inl, inr, ⊎_elim, mul-le-mul_right, mod-lt, mul_assoc, add-mul, mul-zero, div-add-mod', div-lt_iff_lt-mul, zero-mul, arith}
 use Rattle.std.proofs.lemmas.Bool.{cases_eq}
 use Rattle.memory.specs.Shape.{Shape, size, sector_at}
 use Rattle.memory.specs.Page.{block, page}
@@ -64,6 +64,10 @@ module _ (m : Shape) where
       )
 
 module _ (m : Shape) (R : Real m) where
+  -- the page and the sector of an address that is inside are there
+  pub page_and_sector : (a : ℕ) → a < size m → (a / m.bytes < m.sectors * m.pages) × (sector_at m a < m.sectors)
+  page_and_sector a h = let q = (div-lt_iff_lt-mul R.bytes).1 h in (q, (div-lt_iff_lt-mul R.pages).1 q)
+
   -- an address lies in its sector
   pub in_its_sector :
       (a : ℕ)

@@ -1,5 +1,6 @@
 -- What is not refused is what the memory accepts.
 use Rattle.std.proofs.Common.{◌≡◌, ℕ, Bool, true, false, not, ◌&&◌, length, is_some, None, refl, ap, ◌∙◌}
+use Rattle.std.proofs.Math.Bool.{and-true}
 use Rattle.std.proofs.lemmas.Bool.{eq-eqb}
 use Rattle.memory.specs.declared.kind.Kind.{Kind}
 use Rattle.memory.specs.declared.kind.Kind.TheVariants.{Program, Alter, Preset, SectorErase, BulkErase}
@@ -23,10 +24,6 @@ checked d i f p b x y z v w e = ap (λ t. not (is_some (check i x (check f y (ch
     passed true false false b = refl
     passed false f p b = refl
 
-both : (b : Bool) → (b && true) ≡ b
-both true = refl
-both false = refl
-
 pub unrefused : (m : Shape) (prot : ℕ → Bool) (idle clean : Bool) (kind : Kind) (address n : ℕ) → idle ≡ true
     → not (is_some (refusal m prot idle clean kind address n))
     ≡ (((inside m kind address && permits m prot kind address) && fills m kind n) && presets kind clean)
@@ -39,11 +36,11 @@ accepting m kind address sent due = unrefused m.shape (protected_at m) (idle m) 
   where
     by : (kind : Kind) → (((inside m.shape kind address && permits m.shape (protected_at m) kind address) && fills m.shape kind (length sent)) && presets kind (clean_at m address))
         ≡ accepts m.shape (protected_at m) (cycle_of kind address sent) m.image
-    by Program = both _
-    by Alter = both _
+    by Program = and-true _
+    by Alter = and-true _
     by Preset = refl
-    by SectorErase = both _ ∙ both _
-    by BulkErase = both _ ∙ both _
+    by SectorErase = and-true _ ∙ and-true _
+    by BulkErase = and-true _ ∙ and-true _
 
 -- only a preset looks at its page
 pub presets_clean : (kind : Kind) → presets kind true ≡ true

@@ -1,2 +1,4 @@
 pub mod Accepting
+pub mod Events
 pub mod Refusals
+pub mod Sounds

@@ -1,6 +1,7 @@
 -- Refusals by an outline and by the meaning that it outlines, and what a cycle that is not refused has passed.
-use Rattle.std.proofs.Common.{◌≡◌, ℕ, ◌+◌, ◌≤◌, Bool, true, false, not, leb, List, length, get_or, is_some, Some, None, Ok, Err, Option, sym, refl, ap, ◌∙◌, ap₂, arith}
+use Rattle.std.proofs.Common.{◌≡◌, ℕ, ◌+◌, ◌≤◌, Bool, true, false, not, leb, List, length, get_or, is_some, Some, None, Ok, Err, Option, sym, refl, ap, ◌∙◌, ap₂}
 use Rattle.std.proofs.lemmas.Bool.{eqb-true, leb-true, cond-true, cond-false}
+use Rattle.std.proofs.lemmas.Option.{none-some}
 use Rattle.memory.specs.declared.kind.Kind.{Kind}
 use Rattle.memory.specs.declared.kind.Kind.TheVariants.{Program, Alter, Preset, SectorErase, BulkErase}
 use Rattle.memory.specs.Shape.{Shape, size}
@@ -27,11 +28,8 @@ refused (Some g) f e = cc
 abbrev five : (i f d p b : Bool) (x y z v w : PartFault) → Option PartFault
 five i f d p b x y z v w = check i x (check f y (check d z (check p v (check b w None))))
 
-none_some : {P : Type 0} (f : PartFault) → ◌≡◌ {A = Option PartFault} None (Some f) → P
-none_some f e = let z : ◌≡◌ {A = ℕ} 0 1 = cc in absurd (omega arith)
-
 early : (i f d p b : Bool) (x y z v w g : PartFault) → five i f d p true x y z v w ≡ Some g → five i f d p b x y z v w ≡ Some g
-early true true true true b x y z v w g e = none_some g e
+early true true true true b x y z v w g e = absurd (none-some g e)
 early true true true false b x y z v w g e = e
 early true true false p b x y z v w g e = e
 early true false d p b x y z v w g e = e
@@ -46,17 +44,17 @@ pub record Passes (i f d p : Bool) : Type 0 where
 
 passed : (i f d p b : Bool) (x y z v w : PartFault) → five i f d p b x y z v w ≡ None → Passes i f d p
 passed true true true true b x y z v w e = record { inside = refl; fills = refl; idle = refl; permits = refl }
-passed true true true false b x y z v w e = none_some v (sym e)
-passed true true false p b x y z v w e = none_some z (sym e)
-passed true false d p b x y z v w e = none_some y (sym e)
-passed false f d p b x y z v w e = none_some x (sym e)
+passed true true true false b x y z v w e = absurd (none-some v (sym e))
+passed true true false p b x y z v w e = absurd (none-some z (sym e))
+passed true false d p b x y z v w e = absurd (none-some y (sym e))
+passed false f d p b x y z v w e = absurd (none-some x (sym e))
 
 late : (i f d p b : Bool) (x y z v w : PartFault) → five i f d p true x y z v w ≡ None → five i f d p b x y z v w ≡ check b w None
 late true true true true b x y z v w e = refl
-late true true true false b x y z v w e = none_some v (sym e)
-late true true false p b x y z v w e = none_some z (sym e)
-late true false d p b x y z v w e = none_some y (sym e)
-late false f d p b x y z v w e = none_some x (sym e)
+late true true true false b x y z v w e = absurd (none-some v (sym e))
+late true true false p b x y z v w e = absurd (none-some z (sym e))
+late true false d p b x y z v w e = absurd (none-some y (sym e))
+late false f d p b x y z v w e = absurd (none-some x (sym e))
 
 module _ (m : Shape) (prot : ℕ → Bool) (idle : Bool) (kind : Kind) (address n : ℕ) where
   abbrev with : Bool → Option PartFault
@@ -128,8 +126,8 @@ carried_in m image kind address sent l h = cond-true _ _ _ (reaches_in m (length
 -- what a done read has passed
 read_passed : (i d : Bool) (address : ℕ) → check i (Outside address) (check d Busy None) ≡ None → (i ≡ true) × (d ≡ true)
 read_passed true true address e = (refl, refl)
-read_passed true false address e = none_some Busy (sym e)
-read_passed false d address e = none_some (Outside address) (sym e)
+read_passed true false address e = absurd (none-some Busy (sym e))
+read_passed false d address e = absurd (none-some (Outside address) (sym e))
 
 pub read-inside : (m : Shape) (idle : Bool) (address n : ℕ) → read_refusal m idle address n ≡ None → (address + n ≤ size m) × (idle ≡ true)
 read-inside m idle address n e =

@@ -1,6 +1,6 @@
 -- The protected sectors as a list, and when there is none.
-use Rattle.std.specs.Prelude.{◌≡◌, ℕ, zero, suc, ◌-◌, ◌<◌, ◌≤◌, Bool, false, not, ◌&&◌, map, length, get_or, ◌==◌, bit_and, nat_le, slice_index_or, refl}
-use Rattle.std.proofs.Common.{sym, ap, ap₂, ◌∙◌, ⊎_elim, arith}
+use Rattle.std.specs.Prelude.{◌≡◌, ℕ, ◌-◌, ◌<◌, ◌≤◌, false, not, map, length, get_or, ◌==◌, bit_and, nat_le, slice_index_or}
+use Rattle.std.proofs.Common.{sym, ap, ◌∙◌, ⊎_elim, arith}
 use Rattle.std.specs.List.{range_with_len}
 use Rattle.std.proofs.lemmas.List.FromFn.{get_or-map-range_with_len, length-map-range_with_len}
 use Rattle.std.proofs.lemmas.List.{get_or_past}
@@ -11,7 +11,7 @@ use Rattle.memory.specs.declared.kind.Kind.TheVariants.{Program, Alter, Preset, 
 use Rattle.memory.specs.Shape.{Shape}
 use Rattle.memory.specs.Cycle.{permits}
 use Rattle.memory.specs.Protection.{protected_count, protects, free}
-use Rattle.memory.proofs.Free.{free-protects}
+use Rattle.memory.proofs.Free.{free_same, free-protects}
 use Rattle.part.specs.Outline.{guards}
 
 count_most : (st s : ℕ) → protected_count st s ≤ s
@@ -35,18 +35,13 @@ pub length-guards : (st s : ℕ) → length (guards st s) ≡ s
 unfolding guards
 length-guards st s = length-map-range_with_len (protects st s) 0 s
 
--- none below n
-pub free_same : (p q : ℕ → Bool) (n : ℕ) → ((k : ℕ) → p k ≡ q k) → free p n ≡ free q n
-free_same p q zero e = refl
-free_same p q (suc n) e = ap₂ (λ x y. not x && y) (e n) (free_same p q n e)
-
 -- the list permits what the status byte does
 pub permits-guards : (m : Shape) (st s : ℕ) (kind : Kind) (address : ℕ) → permits m (λ k. get_or (guards st s) k false) kind address ≡ permits m (protects st s) kind address
 permits-guards m st s Program address = ap not (guard_at st s _)
 permits-guards m st s Alter address = ap not (guard_at st s _)
 permits-guards m st s Preset address = ap not (guard_at st s _)
 permits-guards m st s SectorErase address = ap not (guard_at st s _)
-permits-guards m st s BulkErase address = free_same _ _ m.sectors (guard_at st s)
+permits-guards m st s BulkErase address = free_same _ _ m.sectors (λ k _. guard_at st s k)
 
 pub free-guards : (st s : ℕ) → st < 256 → 0 < s → free (λ k. get_or (guards st s) k false) s ≡ (bit_and st 0x5C == 0)
-free-guards st s h k = free_same _ _ s (guard_at st s) ∙ free-protects st s h k
+free-guards st s h k = free_same _ _ s (λ k _. guard_at st s k) ∙ free-protects st s h k

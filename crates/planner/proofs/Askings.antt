@@ -1,13 +1,10 @@
 -- How many bytes are asked for, added up.
-use Rattle.std.proofs.Common.{◌≡◌, ℕ, zero, suc, ◌+◌, ◌-◌, ◌*◌, ◌≤◌, Bool, true, false, cond, ◌⊎◌, List, sym, refl, ap, ◌∙◌, subst, inl, inr, suc-mul, add-one, arith}
+use Rattle.std.proofs.Common.{◌≡◌, ℕ, zero, suc, ◌+◌, ◌-◌, ◌*◌, ◌≤◌, Bool, true, false, cond, ◌⊎◌, List, sym, refl, ap, ◌∙◌, subst, inl, inr, add-one, arith}
 use Rattle.std.proofs.lemmas.Bool.{cases_eq, true≢false}
 use Rattle.memory.specs.Protection.{free}
 use Rattle.part.specs.Meaning.{Meaning, protected_at}
 use Rattle.planner.specs.Looking.{touched}
 use Rattle.planner.specs.Asking.{bytes_on, bytes_off, for_barred, for_bulk, whole}
-
-pub mul_more : (k p : ℕ) → (k + 1) * p ≡ k * p + p
-mul_more k p = ap (λ x. x * p) (add-one k) ∙ suc-mul k p
 
 module _ (address : ℕ) (bytes : List ℕ) (q : ℕ) where
   pub on_more : (n : ℕ) → bytes_on address bytes q (n + 1) ≡ bytes_on address bytes q n + cond (touched address bytes (q + n)) 64 0
@@ -50,9 +47,6 @@ module _ (address : ℕ) (bytes : List ℕ) (q : ℕ) where
           → bytes_off address bytes q j ≤ bytes_off address bytes q (suc n)
       go (inl e) ih = subst (λ x. bytes_off address bytes q x ≤ bytes_off address bytes q (suc n)) (sym e) (omega arith)
       go (inr d) ih = omega (arith, ih (omega arith))
-
-pub same_most : (a b : ℕ) → a ≡ b → a ≤ b
-same_most a b e = omega (arith, e)
 
 -- only where a sector is protected
 pub guarded_more : (f : Bool) (a b c : ℕ) → f ≡ false → a + b ≤ c → cond f 0 a + b ≤ cond f 0 c

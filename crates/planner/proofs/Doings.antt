@@ -5,19 +5,14 @@ use Rattle.std.proofs.lemmas.Bool.{and_from}
 use Rattle.memory.specs.Cycle.{Cycle, Goes}
 use Rattle.memory.proofs.Lists.{goes_join}
 use Rattle.part.specs.declared.part.Part.{Ghosts}
-use Rattle.part.specs.Meaning.{Event, asked, carried, polled, cycles, protected_at}
+use Rattle.part.proofs.Events.{cycles-++}
+use Rattle.part.specs.Meaning.{Event, carried, polled, cycles, protected_at}
 use Rattle.part.specs.declared.fault.PartFault.{PartFault}
 use Rattle.least.specs.declared.step.Step.{Step}
 use Rattle.planner.specs.declared.run_fault.RunFault.{RunFault}
 use Rattle.least.specs.Steps.{step_cycle, cycles_of}
 use Rattle.planner.specs.Waits.{Polls}
 use Rattle.planner.specs.Running.{Carries, Refuses, Sends, none, more, Ran, no_limit, still-busy, ran, refused, abandoned, sent_before, Did}
-
-pub cycles-++ : (es fs : List Event) → cycles (es ++ fs) ≡ cycles es ++ cycles fs
-cycles-++ [] fs = refl
-cycles-++ (asked n ∷ es) fs = cycles-++ es fs
-cycles-++ (carried c ∷ es) fs = ap (λ l. c ∷ l) (cycles-++ es fs)
-cycles-++ (polled ∷ es) fs = cycles-++ es fs
 
 no_cycles : (n : ℕ) → cycles (replicate n polled) ≡ []
 no_cycles zero = refl

@@ -1,27 +1,19 @@
 -- One look at a part after another, and what the pages of a part then are.
-use Rattle.std.proofs.Common.{◌≡◌, ℕ, ◌+◌, ◌*◌, ◌≤◌, false, List, [], ◌∷◌, ◌++◌, length, sym, ap, ◌∙◌, inl, inr, ⊎_elim, add_assoc, zero-add, arith}
-use Rattle.std.proofs.lemmas.Nat.{mul-le}
+use Rattle.std.proofs.Common.{◌≡◌, ℕ, ◌+◌, ◌*◌, ◌≤◌, false, List, [], ◌∷◌, ◌++◌, length, sym, ap, ap₂, ◌∙◌, inl, inr, ⊎_elim, add_assoc, zero-add, arith}
 use Rattle.std.proofs.lemmas.Bool.{and_cases, ltb-false}
 use Rattle.memory.specs.Shape.{size}
 use Rattle.memory.specs.Page.{page}
 use Rattle.memory.proofs.Blocks.{below_end, length-block}
+use Rattle.memory.proofs.Sizes.{product_most}
 use Rattle.part.specs.declared.part.Part.{Ghosts}
-use Rattle.part.specs.Meaning.{Meaning, Event, Sound, asked, carried, polled, cycles, polls}
+use Rattle.part.specs.Meaning.{Meaning, Event, Sound, asked, carried, polled, cycles}
+use Rattle.part.proofs.Events.{cycles-++, polls-++}
 use Rattle.planner.specs.Overlay.{overlaid}
 use Rattle.planner.specs.Looking.{Fitting, LookedBy, Readable, asked_bytes, touched, wanted}
 use Rattle.planner.proofs.Overlays.{block-wanted, length-overlaid, overlaid_off}
 
 cycles_join : (l k : List Event) → cycles l ≡ [] → cycles k ≡ [] → cycles (l ++ k) ≡ []
-cycles_join [] k p q = q
-cycles_join (asked n ∷ l) k p q = cycles_join l k p q
-cycles_join (carried c ∷ l) k p q = let z : ◌≡◌ {A = ℕ} 0 1 = ap (λ (x : List _). elim x [ [] ↦ 1 | y ∷ ys ↦ 0 ]) p in absurd (omega arith)
-cycles_join (polled ∷ l) k p q = cycles_join l k p q
-
-polls_join : (l k : List Event) → polls l ≡ 0 → polls k ≡ 0 → polls (l ++ k) ≡ 0
-polls_join [] k p q = q
-polls_join (asked n ∷ l) k p q = polls_join l k p q
-polls_join (carried c ∷ l) k p q = polls_join l k p q
-polls_join (polled ∷ l) k p q = absurd (omega arith)
+cycles_join l k p q = cycles-++ l k ∙ ap₂ (λ x y. x ++ y) p q
 
 pub asked_join : (l k : List Event) → asked_bytes (l ++ k) ≡ asked_bytes l + asked_bytes k
 asked_join [] k = sym (zero-add (asked_bytes k))
@@ -43,7 +35,7 @@ module _ {S : Type 0} (part : Ghosts S) where
           es ++ fs,
           joins a b c es fs p.asked.1 q.asked.1,
           cycles_join es fs p.asked.2 q.asked.2,
-          polls_join es fs p.asked.3 q.asked.3,
+          omega (arith, polls-++ es fs, p.asked.3, q.asked.3),
           omega (arith, h, asked_join es fs, p.asked.4, q.asked.4),
         );
       }
@@ -59,7 +51,7 @@ module _ {S : Type 0} (part : Ghosts S) where
 
 -- a part has at most 262,144 pages, 16 MiB
 pub pages_most : (m : Meaning) → Sound m → m.shape.sectors * m.shape.pages ≤ 262144
-pages_most m S = mul-le m.shape.sectors m.shape.pages 128 2048 S.few S.low
+pages_most m S = product_most m.shape.sectors m.shape.pages S.few S.low
 
 pub size_is : (m : Meaning) → Sound m → size m.shape ≡ m.shape.sectors * m.shape.pages * 64
 size_is m S = ap (λ y. m.shape.sectors * m.shape.pages * y) S.page

@@ -1,7 +1,7 @@
 -- A step at a part: its data make its cycle, and its refusal is the part's.
 use Rattle.std.proofs.Common.{◌≡◌, ℕ, ◌≤◌, Bool, true, false, List, [], ◌∷◌, length, Ok, Err, MatchResult, Option, Result, is_ok, sym, refl, ap, ◌∙◌, subst, arith}
 use Rattle.std.specs.Prelude.{if◌then◌else◌}
-use Rattle.std.proofs.lemmas.Bool.{eqb-true}
+use Rattle.std.proofs.lemmas.Bool.{eqb-true, false≢true}
 use Rattle.memory.specs.declared.kind.Kind.{Kind}
 use Rattle.memory.specs.declared.kind.Kind.TheVariants.{Program, Alter, Preset, SectorErase, BulkErase}
 use Rattle.memory.specs.Page.{block}
@@ -20,7 +20,7 @@ twice : (inside held : Bool) (outside short : PartFault) (rest : Option PartFaul
     → check inside outside (check held short (check inside outside rest)) ≡ check inside outside rest
 twice true true o s r e = refl
 twice false true o s r e = refl
-twice i false o s r e = let z : ◌≡◌ {A = ℕ} 0 1 = cc in absurd (omega arith)
+twice i false o s r e = absurd (false≢true e)
 
 -- where its data lie in the buffer, a step is refused as the part refuses its cycle
 pub step-verdict : (m : Meaning) (sent : List ℕ) (s : Step) → held s.kind (lies s sent) ≡ true

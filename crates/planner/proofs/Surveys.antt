@@ -1,13 +1,10 @@
 -- What is found of a write: pages that it does not touch, a sector's choice, and the choice of all.
-use Rattle.std.proofs.Common.{◌≡◌, ℕ, zero, suc, ◌+◌, ◌*◌, ◌<◌, Bool, true, false, cond, not, ◌&&◌, ◌||◌, List, [], replicate, Some, None, sym, refl, ap, ◌∙◌, ap₂, ⊎_elim, add-zero, add-one, zero-add, arith}
-use Rattle.std.proofs.Math.Bool.{and-true}
-use Rattle.std.proofs.lemmas.Bool.{cases_Bool, cond-false, true≢false}
-use Rattle.memory.proofs.Cycles.{free_at}
+use Rattle.std.proofs.Common.{◌≡◌, ℕ, ◌+◌, ◌*◌, Bool, true, false, cond, not, List, [], replicate, Some, None, sym, refl, ap, ◌∙◌, ap₂, zero-add}
+use Rattle.std.proofs.lemmas.Option.{none-some}
+use Rattle.std.proofs.lemmas.Bool.{cond-false}
 use Rattle.memory.specs.Page.{page}
-use Rattle.memory.specs.Protection.{free}
 use Rattle.memory.specs.Cycle.{program, alter}
 use Rattle.part.specs.Meaning.{Meaning}
-use Rattle.std.specs.List.{list_any, range_with_len}
 use Rattle.least.specs.Cost.{lesser}
 use Rattle.least.specs.Fewest.{fewest}
 use Rattle.least.specs.Window.{window}
@@ -66,12 +63,12 @@ erased_is m a b first count presets e =
 -- a limit, and a cost that was looked at only while below it
 module _ (limit cost : ℕ × ℕ) where
   some_false : (e : ℕ × ℕ) (b : Bool) → Some e ≡ cond b None (Some cost) → (b ≡ false) × (e ≡ cost)
-  some_false e true t = let z : ◌≡◌ {A = ℕ} 0 1 = cc in absurd (omega arith)
+  some_false e true t = absurd (none-some e (sym t))
   some_false e false t = (refl, (cc))
 
   none_true : (b : Bool) → None ≡ cond b None (Some cost) → b ≡ true
   none_true true t = refl
-  none_true false t = let z : ◌≡◌ {A = ℕ} 0 1 = cc in absurd (omega arith)
+  none_true false t = absurd (none-some cost t)
 
   pub below_some : (e : ℕ × ℕ) → Some e ≡ below limit cost → (fewest.leq limit cost ≡ false) × (e ≡ cost)
   below_some e t = some_false e (fewest.leq limit cost) t
@@ -106,24 +103,3 @@ pub on_flat : (m : Meaning) (address : ℕ) (bytes : List ℕ) → on_all m addr
 on_flat m address bytes =
     sum_flat (fewest_lawful 64) (preset_on m address bytes) m.shape.sectors m.shape.pages
     ∙ sum_same fewest (m.shape.sectors * m.shape.pages) (preset_on m address bytes) _ (λ j l. ap (preset_on m address bytes) (sym (zero-add j)))
-
--- a sector that is protected
-pub free_not : (prot : ℕ → Bool) (n k : ℕ) → k < n → prot k ≡ true → free prot n ≡ false
-free_not prot n k h e =
-    ⊎_elim (λ t. absurd (true≢false (sym e ∙ free_at prot n k t h))) (λ t. t) (cases_Bool (free prot n))
-
--- no sector of a range is protected, and none before it
-next : (x y z : Bool) → (not (x || y) && z) ≡ (not y && (not x && z))
-next true true z = refl
-next true false z = refl
-next false true z = refl
-next false false z = refl
-
-none_of : (prot : ℕ → Bool) (a n : ℕ) → (not (list_any prot (range_with_len a n)) && free prot a) ≡ free prot (a + n)
-none_of prot a zero = ap (free prot) (sym (add-zero a))
-none_of prot a (suc n) =
-    next (prot a) _ (free prot a) ∙ ap (λ z. not (list_any prot (range_with_len (a + 1) n)) && z) (sym (ap (free prot) (add-one a)))
-    ∙ none_of prot (a + 1) n ∙ ap (free prot) (omega arith)
-
-pub free_is : (prot : ℕ → Bool) (n : ℕ) → not (list_any prot (range_with_len 0 n)) ≡ free prot n
-free_is prot n = sym (and-true _) ∙ none_of prot 0 n ∙ ap (free prot) (zero-add n)

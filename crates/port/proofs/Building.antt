@@ -92,6 +92,10 @@ pub length-built : (o : Operation) (i : Instruction) (a : ℕ) (s : List ℕ) �
     → length (built o a s) ≡ 1 + i.address + i.dummy + length (carried_by i.carries s)
 length-built o i a s e = ap length (built_is o i a s e) ∙ length-headed i a (carried_by i.carries s)
 
+pub length-enable : length (built WriteEnable 0 []) ≡ 1
+unfolding table listed built
+length-enable = refl
+
 -- the address in its three bytes
 back-again : (a : ℕ) → a < 16777216 → a / 256 / 256 % 256 * 65536 + a / 256 % 256 * 256 + a % 256 ≡ a
 back-again a h = omega arith

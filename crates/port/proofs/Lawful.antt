@@ -2,6 +2,7 @@
 use Rattle.std.proofs.Common.{◌≡◌, ℕ, zero, suc, ◌+◌, ◌/◌, ◌%◌, ◌<◌, Bool, true, false, cond, eqb, ltb, leb, ◌⊎◌, List, length, get_or, replicate, Some, None, Option, sym, refl, ap, ◌∙◌, subst, inl, inr, ⊎_elim, arith}
 use lib.Bits.{bit_and}
 use Rattle.std.proofs.lemmas.Bool.{and_parts, both_ways, cond-true, cond-false, eqb-true, ne_eqb, ltb-true, not-true}
+use Rattle.std.proofs.lemmas.Option.{cond_some, none-some}
 use Rattle.memory.specs.Shape.{sector_at, size}
 use Rattle.memory.specs.Protection.{protects}
 use Rattle.memory.specs.Cycle.{Cycle, program, alter, preset, sector_erase, bulk_erase, effect, replacing}
@@ -45,29 +46,22 @@ idle-act k c (read a) e = refl
 idle-act k c (cycle y) e = go (takes c y) e
   where
     go : (b : Bool) → cond b (Some y) None ≡ None → (cond b (done k c (effect (shape c) y c.image)) c).image ≡ c.image
-    go true e = let z : ◌≡◌ {A = ℕ} 0 1 = cc in absurd (omega arith)
+    go true e = absurd (none-some y (sym e))
     go false e = refl
 idle-act k c unknown e = refl
 
 pub idle-image : (k : ℕ) (c : Chip) (f : Frame) → carried_by c f ≡ None → (after k c f).image ≡ c.image
 idle-image k c f e = idle-act k c (hears c f) e
 
-never : {A : Type 0} (y : A) → None ≡ Some y → ⊥
-never y e = let z : ◌≡◌ {A = ℕ} 0 1 = cc in omega arith
-
 -- an order that starts a cycle asks for it, and it is taken
 started : (c : Chip) (o : Ask) (y : Cycle) → starts c o ≡ Some y → (o ≡ cycle y) × (takes c y ≡ true)
-started c enable y e = absurd (never y e)
-started c disable y e = absurd (never y e)
-started c status y e = absurd (never y e)
-started c identify y e = absurd (never y e)
-started c (read a) y e = absurd (never y e)
-started c (cycle x) y e = go (takes c x) refl e
-  where
-    go : (b : Bool) → takes c x ≡ b → cond b (Some x) None ≡ Some y → (cycle x ≡ cycle y) × (takes c y ≡ true)
-    go true t e = let s : x ≡ y = cc in (ap cycle s, subst (λ v. takes c v ≡ true) s t)
-    go false t e = absurd (never y e)
-started c unknown y e = absurd (never y e)
+started c enable y e = absurd (none-some y e)
+started c disable y e = absurd (none-some y e)
+started c status y e = absurd (none-some y e)
+started c identify y e = absurd (none-some y e)
+started c (read a) y e = absurd (none-some y e)
+started c (cycle x) y e = let s = cond_some _ x y e in (ap cycle s.1, subst (λ v. takes c v ≡ true) s.1 s.0)
+started c unknown y e = absurd (none-some y e)
 
 -- the chip after it
 pub cycled : (k : ℕ) (c : Chip) (f : Frame) (y : Cycle) → carried_by c f ≡ Some y → after k c f ≡ done k c (effect (shape c) y c.image)
@@ -155,7 +149,7 @@ latch-act k c (read x) a b e = refl
 latch-act k c (cycle y) a b e = go (takes c y) e
   where
     go : (t : Bool) → cond t (Some y) None ≡ None → (cond t (done k c (effect (shape c) y c.image)) c).latch ≡ c.latch
-    go true e = absurd (never y (sym e))
+    go true e = absurd (none-some y (sym e))
     go false e = refl
 latch-act k c unknown a b e = refl
 

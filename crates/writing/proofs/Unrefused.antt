@@ -1,7 +1,7 @@
 -- No step of a plan is refused: its data lie in the buffer, and the part accepts its cycle.
 use Rattle.std.proofs.Common.{◌≡◌, ℕ, zero, suc, ◌+◌, ◌<◌, ◌≤◌, Bool, true, false, cond, not, leb, List, [], ◌∷◌, ◌++◌, length, take, drop, is_some, Some, None, Option, sym, refl, ap, ◌∙◌, subst, append_assoc, add-one, arith, length-append, take-append-drop}
 use Rattle.std.proofs.lemmas.List.{map-append}
-use Rattle.std.proofs.lemmas.Bool.{and_parts, le-leb}
+use Rattle.std.proofs.lemmas.Bool.{and_parts, le-leb, false≢true}
 use Rattle.memory.specs.declared.kind.Kind.{Kind}
 use Rattle.memory.specs.declared.kind.Kind.TheVariants.{Program, Alter, Preset, SectorErase, BulkErase}
 use Rattle.memory.specs.Shape.{Shape, size}
@@ -83,7 +83,7 @@ accepted_at m prot (x ∷ l) c k image e = accepted_at m prot l c k (effect m x 
 
 none_of : (o : Option PartFault) → not (is_some o) ≡ true → o ≡ None
 none_of None e = refl
-none_of (Some f) e = let z : ◌≡◌ {A = ℕ} 0 1 = cc in absurd (omega arith)
+none_of (Some f) e = absurd (false≢true e)
 
 -- step k of an accepted plan, at a part where the steps before it were carried out
 pub unrefused : (a b : Meaning) (list : List Step) (fresh : List ℕ) (wanted : List ℕ) (k : ℕ) (s : Step) (fault : PartFault)

@@ -4,7 +4,8 @@ use Rattle.port.specs.Build.{built}
 use Rattle.port.specs.Machine.{Frame, frame, after}
 use Rattle.driver.specs.Frames.{cycle_frame}
 use Rattle.port.specs.Operations.{operation_of}
-use Rattle.driver.specs.Sending.{length-enable, length-cycle, after-enable}
+use Rattle.port.proofs.Building.{length-enable}
+use Rattle.driver.specs.Sending.{length-cycle, after-enable}
 use Rattle.driver.proofs.cycle.send.Goals as goal
 
 pub ask-requires : goal.ask-requires

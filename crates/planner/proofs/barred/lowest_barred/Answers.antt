@@ -1,4 +1,4 @@
-use Rattle.std.proofs.Common.{◌≡◌, ℕ, ◌+◌, ◌*◌, ◌<◌, Bool, true, false, cond, Some, None, sym, subst, arith}
+use Rattle.std.proofs.Common.{◌≡◌, ℕ, ◌+◌, ◌*◌, ◌<◌, Bool, true, false, cond, Some, None, sym, subst, arith, add-mul}
 use Rattle.memory.specs.Protection.{free}
 use Rattle.memory.proofs.Blocks.{below_end}
 use Rattle.part.specs.Meaning.{Meaning, protected_at}
@@ -6,9 +6,9 @@ use Rattle.planner.specs.Changes.{FirstIn}
 use Rattle.planner.specs.Asking.{whole}
 use Rattle.planner.specs.Looking.{LookedBy, wanted}
 use Rattle.planner.proofs.Barrings.{barred_open, barred_same, barred_some}
-use Rattle.planner.proofs.Askings.{guarded_more, guarded_most, mul_more}
+use Rattle.planner.proofs.Askings.{guarded_more, guarded_most}
 use Rattle.planner.proofs.Lookings.{looked_join, looked_most}
-use Rattle.planner.proofs.Surveys.{free_not}
+use Rattle.memory.proofs.Free.{free_not}
 use Rattle.planner.proofs.barred.lowest_barred.Goals as goal
 use Rattle.planner.proofs.barred.lowest_barred.Goals.{then-protects+in_default, else-protects}
 
@@ -54,7 +54,7 @@ loop-k-preserved g c =
     let s = c.sectors-sectors.ensures in
     let inside : k < m.shape.sectors = omega arith in
     let f = free (protected_at m) m.shape.sectors in
-    let more = mul_more k m.shape.pages in
+    let more = add-mul k 1 m.shape.pages in
     let then : ℕ = cond f 0 (64 * ((k + 1) * m.shape.pages)) in
     elim c.if-protects.branch [
       | then-protects+in_default w ↦ (

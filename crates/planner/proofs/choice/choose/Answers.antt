@@ -1,11 +1,10 @@
-use Rattle.std.proofs.Common.{ℕ, ◌+◌, cond, List, None, Option, ap}
+use Rattle.std.proofs.Common.{ℕ, ◌+◌, cond, List, None, Option, ap, le_of_eq}
 use Rattle.memory.specs.Protection.{free}
 use Rattle.part.specs.Meaning.{Meaning, protected_at}
 use Rattle.least.specs.Fewest.{fewest}
 use Rattle.least.specs.Sectors.{bulk_cost}
 use Rattle.planner.specs.Asking.{for_bulk, whole}
 use Rattle.planner.specs.Survey.{below, preset}
-use Rattle.planner.proofs.Askings.{same_most}
 use Rattle.planner.proofs.Lookings.{looked_join}
 use Rattle.planner.proofs.choice.choose.Goals as goal
 
@@ -17,10 +16,10 @@ pub returns-in-Some-clause-looked : goal.returns-in-Some-clause-looked
 returns-in-Some-clause-looked g c =
     let sectors = c.sector_costs-sectors.ensures.looked in
     looked_join g.P.Part g.met.P.Part.joins _ _ _ _ _ _ sectors c.in-Some.ensures.looked
-    (same_most _ _ (ap (λ x. whole (g.P.Part.meaning c.args.part.now) + for_bulk x) sectors.same))
+    (le_of_eq (ap (λ x. whole (g.P.Part.meaning c.args.part.now) + for_bulk x) sectors.same))
 
 pub returns-in-None-clause-looked : goal.returns-in-None-clause-looked
 returns-in-None-clause-looked g c =
     let sectors = c.sector_costs-sectors.ensures.looked in
     looked_join g.P.Part g.met.P.Part.joins _ _ _ _ _ _ sectors c.in-None.ensures.looked
-    (same_most _ _ (ap (λ x. whole (g.P.Part.meaning c.args.part.now) + for_bulk x) sectors.same))
+    (le_of_eq (ap (λ x. whole (g.P.Part.meaning c.args.part.now) + for_bulk x) sectors.same))

@@ -1,4 +1,4 @@
-use Rattle.std.proofs.Common.{◌≡◌, ℕ, ◌+◌, ◌<◌, List, length, get_or, set, sym, ap, ◌∙◌, ap₂, ⊎_elim, arith, get_or-set_other, get_or-set_same}
+use Rattle.std.proofs.Common.{◌≡◌, ℕ, ◌+◌, ◌<◌, List, length, get_or, set, sym, ap, ◌∙◌, ap₂, ⊎_elim, arith, get_or-set_other, get_or-set_same, add-mul}
 use Rattle.std.proofs.lemmas.Bool.{cases_eq}
 use Rattle.part.specs.Meaning.{Meaning}
 use Rattle.planner.specs.declared.chosen.Pages.{Pages}
@@ -6,7 +6,6 @@ use Rattle.planner.specs.declared.chosen.Pages.TheVariants.{Kept}
 use Rattle.least.specs.Fewest.{fewest}
 use Rattle.least.specs.Sectors.{over_sector, sector_cost}
 use Rattle.planner.specs.Survey.{kept, preset, preset_on, sector_pages}
-use Rattle.planner.proofs.Askings.{mul_more}
 use Rattle.planner.proofs.Lookings.{looked_join}
 use Rattle.planner.proofs.Totals.{parts, sum_more}
 use Rattle.planner.proofs.choice.sector_costs.Goals as goal
@@ -30,7 +29,7 @@ loop-k-preserved g c =
     let few = c.requires.0.sound.few in
     let cost = parts _ _ _ c.add_assign.ensures.after.0 in
     let presets = parts _ _ _ c.add_assign.ensures.after.1 in (
-      looked_join g.P.Part g.met.P.Part.joins _ _ _ _ _ _ inv.0 sector.looked (omega (arith, mul_more k m.shape.pages, ap (λ (x : Meaning). x.shape.pages) inv.0.same)),
+      looked_join g.P.Part g.met.P.Part.joins _ _ _ _ _ _ inv.0 sector.looked (omega (arith, add-mul k 1 m.shape.pages, ap (λ (x : Meaning). x.shape.pages) inv.0.same)),
       (omega (arith, inv.1, sector.bound, cost.0), omega (arith, inv.1, sector.bound, cost.1)),
       (omega (arith, inv.2, sector.bound, presets.0), omega (arith, inv.2, sector.bound, presets.1)),
       c.add_assign.ensures.after.0

@@ -1,4 +1,4 @@
-use Rattle.std.proofs.Common.{◌≡◌, ℕ, ◌+◌, ◌-◌, List, sym, ap, ◌∙◌, subst, ap₂, arith}
+use Rattle.std.proofs.Common.{◌≡◌, ℕ, ◌+◌, ◌-◌, List, sym, ap, ◌∙◌, subst, ap₂, arith, le_of_eq}
 use Rattle.std.proofs.lemmas.Bool.{cond-true, cond-false}
 use Rattle.part.specs.Meaning.{Meaning}
 use Rattle.least.specs.Cost.{sum_to}
@@ -6,7 +6,7 @@ use Rattle.least.specs.Fewest.{fewest}
 use Rattle.planner.specs.Survey.{below, preset_off, off_from, on_from, erased_from}
 use Rattle.least.proofs.Laws.{fewest_lawful}
 use Rattle.least.proofs.Sums.{Le}
-use Rattle.planner.proofs.Askings.{off_front, off_next, same_most}
+use Rattle.planner.proofs.Askings.{off_front, off_next}
 use Rattle.planner.proofs.Lookings.{looked_join, looked_most}
 use Rattle.planner.proofs.Surveys.{erased_is}
 use Rattle.planner.proofs.Totals.{parts, sum_next, sum-front}
@@ -44,7 +44,7 @@ loop-q-preserved g c =
     let start : ℕ × ℕ = c.plus-cost.result in
     let f : ℕ → ℕ × ℕ = λ i. preset_off m a b (c.args.first + i) in
     let sum = parts _ _ _ c.plus-cost-in-loop-q.ensures in (
-      looked_join g.P.Part g.met.P.Part.joins _ _ _ _ _ _ inv.0 page.looked (same_most _ _ (sym (off_next a b c.args.first c.loop-q.q (omega arith)))),
+      looked_join g.P.Part g.met.P.Part.joins _ _ _ _ _ _ inv.0 page.looked (le_of_eq (sym (off_next a b c.args.first c.loop-q.q (omega arith)))),
       omega (arith, inv.1, page.bound, sum.0),
       omega (arith, inv.2, page.bound, sum.1),
       c.plus-cost-in-loop-q.ensures

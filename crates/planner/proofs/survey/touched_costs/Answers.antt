@@ -1,7 +1,7 @@
-use Rattle.std.proofs.Common.{sym, ap, ◌∙◌, ap₂, arith}
+use Rattle.std.proofs.Common.{sym, ap, ◌∙◌, ap₂, arith, le_of_eq}
 use Rattle.least.specs.Fewest.{fewest}
 use Rattle.planner.specs.Survey.{kept, preset_on}
-use Rattle.planner.proofs.Askings.{on_next, same_most}
+use Rattle.planner.proofs.Askings.{on_next}
 use Rattle.planner.proofs.Lookings.{looked_join}
 use Rattle.planner.proofs.Totals.{parts, sum_next}
 use Rattle.planner.proofs.survey.touched_costs.Goals as goal
@@ -16,7 +16,7 @@ loop-q-preserved g c =
     let q = c.loop-q.q in
     let cost = parts _ _ _ c.add_assign.ensures.after.0 in
     let presets = parts _ _ _ c.add_assign.ensures.after.1 in (
-      looked_join g.P.Part g.met.P.Part.joins _ _ _ _ _ _ inv.0 page.looked (same_most _ _ (sym (on_next a b c.args.first c.loop-q.q (omega arith)))),
+      looked_join g.P.Part g.met.P.Part.joins _ _ _ _ _ _ inv.0 page.looked (le_of_eq (sym (on_next a b c.args.first c.loop-q.q (omega arith)))),
       (omega (arith, inv.1, page.bound, cost.0), omega (arith, inv.1, page.bound, cost.1)),
       (omega (arith, inv.2, page.bound, presets.0), omega (arith, inv.2, page.bound, presets.1)),
       c.add_assign.ensures.after.0

@@ -1,8 +1,9 @@
 use Rattle.std.proofs.Common.{length, ap, arith}
+use Rattle.port.proofs.Building.{length-enable}
 use Rattle.least.specs.Steps.{step_cycle}
 use Rattle.listing.specs.PlanFrames.{enabling, sending}
 use Rattle.listing.specs.Writing.{line_text}
-use Rattle.listing.proofs.Planned.{built_for, built-size, enable-size, step-text}
+use Rattle.listing.proofs.Planned.{built_for, built-size, step-text}
 use Rattle.listing.proofs.Sheets.{room_first, room_next, wrote_is, wrote_join}
 use Rattle.listing.proofs.plan_text.Listed.put.Goals as goal
 
@@ -10,7 +11,7 @@ pub put_frame-requires : goal.put_frame-requires
 put_frame-requires c =
     let d = c.args.self.now.«data».now in
     let s = c.args.self.now.step.now in
-    let e = enable-size in
+    let e = length-enable in
     record { short = omega arith; room = room_first c.args.sheet.now (line_text enabling) (line_text (sending (step_cycle d s))) (step-text d s) c.requires }
 
 pub put_frame-requires-2 : goal.put_frame-requires-2
