@@ -50,7 +50,7 @@ impl PlainImage {
     }
 
     // The bytes as they stand.
-    pub fn into_image(self) -> Vec<u8>
+    pub fn into_bytes(self) -> Vec<u8>
         ensures { result ≡ self.image.bytes }
     {
         let PlainImage {

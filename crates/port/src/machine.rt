@@ -62,7 +62,7 @@ impl BenchChip {
     }
 
     // The bytes as they stand.
-    pub fn into_image(self) -> Vec<u8>
+    pub fn into_bytes(self) -> Vec<u8>
         ensures { result ≡ self.image.bytes }
     {
         self.image.into_bytes()
