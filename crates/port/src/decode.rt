@@ -14,7 +14,7 @@ fn address_of(a2: u8, a1: u8, a0: u8) -> usize
 }
 
 // What an instruction asks at an address, with data.
-fn mean<'a>(operation: Operation, address: usize, data: &'a [u8]) -> Order<'a>
+fn order_of<'a>(operation: Operation, address: usize, data: &'a [u8]) -> Order<'a>
     ensures { said result ≡ meant operation address «data».now }
 {
     match operation {
@@ -32,12 +32,12 @@ fn mean<'a>(operation: Operation, address: usize, data: &'a [u8]) -> Order<'a>
 }
 
 // What a frame of this code asks, if its shape is right: so many bytes after the code, so many wanted back.
-fn shape<'a>(code: u8, after: usize, wanted: usize, address: usize, data: &'a [u8]) -> Order<'a>
+fn order_by_code<'a>(code: u8, after: usize, wanted: usize, address: usize, data: &'a [u8]) -> Order<'a>
     ensures { said result ≡ shaped_by (lookup table code) after wanted address «data».now }
 {
     match Instruction::find(code) {
         Some(instruction) if instruction.fits(after, wanted) => {
-            mean(instruction.operation, address, data)
+            order_of(instruction.operation, address, data)
         }
         _ => Order::Unknown,
     }
@@ -49,14 +49,14 @@ pub fn decode<'a>(sent: &'a [u8], wanted: usize) -> Order<'a>
 {
     match sent {
         [] => Order::Unknown,
-        [code, a2, a1, a0, data @ ..] => shape(
+        [code, a2, a1, a0, data @ ..] => order_by_code(
             *code,
             sent.len() - 1,
             wanted,
             address_of(*a2, *a1, *a0),
             data,
         ),
-        [code, ..] => shape(*code, sent.len() - 1, wanted, 0, &[]),
+        [code, ..] => order_by_code(*code, sent.len() - 1, wanted, 0, &[]),
     }
 }
 
