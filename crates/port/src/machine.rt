@@ -102,7 +102,7 @@ impl BenchChip {
             Order::Status => fill(back, self.status_byte()),
             Order::Identify => self.identify(back),
             Order::Read(address) => self.image.read(address, back),
-            Order::Enable | Order::Disable | Order::Cycle(_, _, _) | Order::Unknown => fill(
+            Order::Enable | Order::Disable | Order::Cycle { .. } | Order::Unknown => fill(
                 back, 0xFF,
             ),
         }
@@ -127,9 +127,13 @@ impl BenchChip {
             Order::Enable => self.latch = true,
             Order::Disable => self.latch = false,
             Order::Status => self.busy = self.busy.saturating_sub(1),
-            Order::Cycle(kind, address, sent) => {
+            Order::Cycle {
+                kind,
+                address,
+                data,
+            } => {
                 if self.takes(kind, address) {
-                    self.image.carry(kind, address, sent);
+                    self.image.carry(kind, address, data);
                     self.latch = false;
                     self.busy = self.busy_number;
                 }
