@@ -6,7 +6,7 @@ ghost use Rattle.port.specs.Machine.{Within, act, identify, reply, said, shown, 
 ghost use Rattle.port.specs.Bench.{chip_of, fresh, unmade};
 
 use crate::bench::BenchChip;
-use crate::fault::Making;
+use crate::fault::ChipMaking;
 use crate::order::Order;
 use memory::bytes::fill;
 use memory::image::{Image, Unmade};
@@ -27,27 +27,27 @@ impl BenchChip {
         image: Vec<u8>,
         status: u8,
         busy_number: usize,
-    ) -> Result<BenchChip, Unmade<Making>>
+    ) -> Result<BenchChip, Unmade<ChipMaking>>
         ensures { MatchResult result
             (λ b. (unmade capacity (vec_len image) status busy_number ≡ None) × (chip_of b ≡ fresh capacity image.items status) × (b.image.bytes ≡ image) × (b.busy_number ≡ busy_number))
             (λ e. (unmade capacity (vec_len image) status busy_number ≡ Some e.fault) × (e.bytes ≡ image)) }
     {
         let Some(model) = Model::find(capacity) else {
             return Err(Unmade {
-                fault: Making::Geometry,
+                fault: ChipMaking::Geometry,
                 bytes: image,
             });
         };
         let image = Image::with_geometry(model.geometry, image).map_err(|unmade| unmade.convert())?;
         let Some(status) = Status::new(status) else {
             return Err(Unmade {
-                fault: Making::Status,
+                fault: ChipMaking::Status,
                 bytes: image.into_bytes(),
             });
         };
         if busy_number > MOST_BUSY {
             return Err(Unmade {
-                fault: Making::Busy,
+                fault: ChipMaking::Busy,
                 bytes: image.into_bytes(),
             });
         }
