@@ -3,7 +3,7 @@ ghost use Rattle.std.specs.Prelude.{◌≡◌, true, not, if◌then◌else◌, O
 ghost use Rattle.memory.specs.Shape.{shaped};
 ghost use Rattle.part.specs.declared.fault.PartFault.TheVariants.{NoSector};
 ghost use Rattle.memory.specs.Cycle.{permits};
-ghost use Rattle.part.specs.Verdict.{Accepting, barred, fills, form_refusal, read_refusal, refusal, told};
+ghost use Rattle.part.specs.Verdict.{Accepting, barred, form_refusal, read_refusal, refusal, takes_length, told};
 ghost use Rattle.part.specs.Outline.{guarding, outlined};
 
 use crate::fault::PartFault;
@@ -77,7 +77,7 @@ pub fn check_form(
     if !is_within(size, kind, address) {
         return Err(PartFault::Outside(address));
     }
-    if !fills_page(kind, n) {
+    if !takes_length(kind, n) {
         return Err(PartFault::PageData(n));
     }
     if busy {
@@ -86,9 +86,9 @@ pub fn check_form(
     Ok(())
 }
 
-// Whether n bytes of data suit a cycle of this kind: one at least and a page at most; an erase has none.
-pub fn fills_page(kind: Kind, n: usize) -> bool
-    ensures { result ≡ fills (shaped 0 0) kind n }
+// Whether a cycle of this kind takes n bytes of data: one at least and a page at most. An erase has no data, and takes any number.
+pub fn takes_length(kind: Kind, n: usize) -> bool
+    ensures { result ≡ takes_length (shaped 0 0) kind n }
 {
     !kind.has_data() || ((1..=PAGE_BYTES).contains(&n))
 }
