@@ -8,7 +8,7 @@ use Rattle.memory.specs.Cycle.{cycle_of, permits, accepts}
 use Rattle.part.specs.declared.fault.PartFault.{PartFault}
 use Rattle.part.specs.declared.fault.PartFault.TheVariants.{Outside, PageData, Busy, Protected, NotBlank}
 use Rattle.part.specs.Meaning.{protected_at}
-use Rattle.part.specs.Verdict.{Accepting, check, refusal, inside, takes_length, barred, presets, idle, clean_at}
+use Rattle.part.specs.Verdict.{Accepting, check, refusal, inside, takes_length, told_address, presets, idle, clean_at}
 
 -- five checks, the third of them passed
 checked : (d i f p b : Bool) (x y z v w : PartFault) → d ≡ true
@@ -32,7 +32,7 @@ pub unrefused : (m : Shape) (prot : ℕ → Bool) (idle clean : Bool) (kind : Ki
     ≡ (((inside m kind address && permits m prot kind address) && takes_length m kind n) && presets kind clean)
 unrefused m prot idle clean kind address n e =
     checked idle (inside m kind address) (takes_length m kind n) (permits m prot kind address) (presets kind clean)
-    (Outside address) (PageData n) Busy (Protected (barred kind address)) (NotBlank address) e
+    (Outside address) (PageData n) Busy (Protected (told_address kind address)) (NotBlank address) e
 
 pub accepting : Accepting
 accepting m kind address sent due = unrefused m.shape (protected_at m) (idle m) (clean_at m address) kind address (length sent) (eq-eqb _ _ due) ∙ by kind

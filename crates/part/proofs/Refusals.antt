@@ -11,7 +11,7 @@ use Rattle.part.specs.declared.fault.PartFault.TheVariants.{Outside, PageData, B
 use Rattle.part.specs.declared.outline.Outline.{Outline}
 use Rattle.part.specs.Meaning.{Meaning, protected_at}
 use Rattle.part.specs.Outline.{Outlines, outlined, guarding}
-use Rattle.part.specs.Verdict.{check, refusal, read_refusal, inside, takes_length, barred, presets, idle, clean_at, verdict, read_verdict, told}
+use Rattle.part.specs.Verdict.{check, refusal, read_refusal, inside, takes_length, told_address, presets, idle, clean_at, verdict, read_verdict, told}
 use Rattle.part.proofs.Accepting.{accepting, presets_clean}
 
 -- what is told, and why
@@ -60,24 +60,24 @@ late false f d p b x y z v w e = none_some x (sym e)
 
 module _ (m : Shape) (prot : ℕ → Bool) (idle : Bool) (kind : Kind) (address n : ℕ) where
   abbrev with : Bool → Option PartFault
-  with b = five (inside m kind address) (takes_length m kind n) idle (permits m prot kind address) b (Outside address) (PageData n) Busy (Protected (barred kind address)) (NotBlank address)
+  with b = five (inside m kind address) (takes_length m kind n) idle (permits m prot kind address) b (Outside address) (PageData n) Busy (Protected (told_address kind address)) (NotBlank address)
 
   pub refused_early : (clean : Bool) (f : PartFault) → refusal m prot idle true kind address n ≡ Some f → refusal m prot idle clean kind address n ≡ Some f
   refused_early clean f e =
       early (inside m kind address) (takes_length m kind n) idle (permits m prot kind address) (presets kind clean) (Outside address) (PageData n) Busy
-      (Protected (barred kind address)) (NotBlank address) f (sym (ap with (presets_clean kind)) ∙ e)
+      (Protected (told_address kind address)) (NotBlank address) f (sym (ap with (presets_clean kind)) ∙ e)
 
   pub refused_late : (clean : Bool) → refusal m prot idle true kind address n ≡ None
       → refusal m prot idle clean kind address n ≡ check (presets kind clean) (NotBlank address) None
   refused_late clean e =
       late (inside m kind address) (takes_length m kind n) idle (permits m prot kind address) (presets kind clean) (Outside address) (PageData n) Busy
-      (Protected (barred kind address)) (NotBlank address) (sym (ap with (presets_clean kind)) ∙ e)
+      (Protected (told_address kind address)) (NotBlank address) (sym (ap with (presets_clean kind)) ∙ e)
 
   pub all_passed : (clean : Bool) → refusal m prot idle clean kind address n ≡ None
       → Passes (inside m kind address) (takes_length m kind n) idle (permits m prot kind address)
   all_passed clean e =
       passed (inside m kind address) (takes_length m kind n) idle (permits m prot kind address) (presets kind clean) (Outside address) (PageData n) Busy
-      (Protected (barred kind address)) (NotBlank address) e
+      (Protected (told_address kind address)) (NotBlank address) e
 
   pub done_all : (clean : Bool) → refusal m prot idle true kind address n ≡ None → presets kind clean ≡ true → refusal m prot idle clean kind address n ≡ None
   done_all clean e t = refused_late clean e ∙ cond-true _ _ _ t

@@ -34,12 +34,12 @@ takes_length m SectorErase n = true
 takes_length m BulkErase n = true
 
 -- 4: nothing that the cycle alters is protected (`permits`), and the address that is told where something is
-abbrev pub barred : Kind → ℕ → ℕ
-barred Program address = address
-barred Alter address = address
-barred Preset address = address
-barred SectorErase address = address
-barred BulkErase address = 0
+abbrev pub told_address : Kind → ℕ → ℕ
+told_address Program address = address
+told_address Alter address = address
+told_address Preset address = address
+told_address SectorErase address = address
+told_address BulkErase address = 0
 
 -- 5: a preset's page is wholly FFh, which `clean` says
 abbrev pub presets : Kind → Bool → Bool
@@ -60,7 +60,7 @@ refusal m prot idle clean kind address n =
     check (inside m kind address) (Outside address)
     (check (takes_length m kind n) (PageData n)
     (check idle Busy
-    (check (permits m prot kind address) (Protected (barred kind address))
+    (check (permits m prot kind address) (Protected (told_address kind address))
     (check (presets kind clean) (NotBlank address) None))))
 
 -- why a read of n bytes is refused, if it is

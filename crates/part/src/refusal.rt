@@ -3,7 +3,7 @@ ghost use Rattle.std.specs.Prelude.{◌≡◌, true, not, if◌then◌else◌, O
 ghost use Rattle.memory.specs.Shape.{shaped};
 ghost use Rattle.part.specs.declared.fault.PartFault.TheVariants.{NoSector};
 ghost use Rattle.memory.specs.Cycle.{permits};
-ghost use Rattle.part.specs.Verdict.{Accepting, barred, form_refusal, read_refusal, refusal, takes_length, told};
+ghost use Rattle.part.specs.Verdict.{Accepting, form_refusal, read_refusal, refusal, takes_length, told, told_address};
 ghost use Rattle.part.specs.Outline.{guarding, outlined};
 
 use crate::fault::PartFault;
@@ -57,7 +57,7 @@ impl Outline {
     {
         check_form(self.geometry.size(), self.busy, kind, address, n)?;
         if !self.permits(kind, address) {
-            return Err(PartFault::Protected(barred(kind, address)));
+            return Err(PartFault::Protected(told_address(kind, address)));
         }
         Ok(())
     }
@@ -94,8 +94,8 @@ pub fn takes_length(kind: Kind, n: usize) -> bool
 }
 
 // The address that is told where a cycle meets protection: a bulk erase has none, and tells 0.
-pub fn barred(kind: Kind, address: usize) -> usize
-    ensures { result ≡ barred kind address }
+pub fn told_address(kind: Kind, address: usize) -> usize
+    ensures { result ≡ told_address kind address }
 {
     if kind.has_address() { address } else { 0 }
 }
