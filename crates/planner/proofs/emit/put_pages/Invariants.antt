@@ -8,4 +8,4 @@ abbrev pub invariant-loop-q : goal.invariant-loop-q
 invariant-loop-q g l =
     LookedBy g.P.Part (64 * (l.q - l.first)) l.initial.part l.part
     × Sent (g.P.Part.intact l.initial.part)
-    (pages_list (g.P.Part.meaning l.initial.part) l.write.address l.write.bytes.now l.pages l.first (l.q - l.first)) l.initial.sheet l.sheet
+    (pages_list (g.P.Part.meaning l.initial.part) l.write.address l.write.bytes.now l.treatment l.first (l.q - l.first)) l.initial.sheet l.sheet
