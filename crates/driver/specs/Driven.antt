@@ -18,7 +18,7 @@ use Rattle.part.specs.declared.outline.Outline.{Outline}
 use Rattle.part.specs.Meaning as of_part
 use Rattle.part.specs.Meaning.{Meaning, Event, asked, carried, polled, cycles, polls}
 use Rattle.part.specs.Outline.{outlined, guards, guarding}
-use Rattle.part.specs.Verdict.{inside, fills, presets, idle}
+use Rattle.part.specs.Verdict.{inside, takes_length, presets, idle}
 use Rattle.port.proofs.Hearing.{status-heard}
 use Rattle.part.proofs.Events.{cycles-++, polls-++}
 use Rattle.part.proofs.Refusals.{reaches_in}
@@ -150,7 +150,7 @@ looked o of_kind.BulkErase a n r x e i s f = s
 -- a cycle
 module _ (o p : Outline) (c d : Chip) (room : ℕ) (kind : Kind) (a : ℕ) (sent : List ℕ) (sound : of_chip.Sound c) (i : Intact o c)
     (same_shape : outlined p ≡ outlined o) (same-status : p.status.bits ≡ o.status.bits) (busy : p.busy ≡ true) (was-idle : o.busy ≡ false)
-    (is-inside : inside (outlined o) kind a ≡ true) (is_filled : fills (outlined o) kind (length sent) ≡ true)
+    (is-inside : inside (outlined o) kind a ≡ true) (is_filled : takes_length (outlined o) kind (length sent) ≡ true)
     (is_open : permits (outlined o) (guarding o) kind a ≡ true)
     (clean : presets kind (blank (page 64 (a / 64) c.image)) ≡ true)
     (e : d ≡ after d.busy (after 0 c enable_frame) (cycle_frame kind a sent)) where

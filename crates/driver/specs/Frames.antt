@@ -3,7 +3,7 @@ use Rattle.std.specs.Prelude.{◌≡◌, ℕ, zero, suc, ◌+◌, ◌-◌, ◌*�
 use Rattle.memory.specs.declared.kind.Kind.{Kind}
 use Rattle.memory.specs.declared.kind.Kind.TheVariants as of_kind
 use Rattle.memory.specs.Shape.{Shape, shaped}
-use Rattle.part.specs.Verdict.{inside, fills}
+use Rattle.part.specs.Verdict.{inside, takes_length}
 use Rattle.port.specs.declared.instruction.Operation.TheVariants.{WriteEnable, ReadStatus, Identify, Read}
 use Rattle.port.specs.Build.{built}
 use Rattle.port.specs.Operations.{operation_of}
@@ -49,4 +49,4 @@ largest = shaped 128 2048
 
 -- a cycle that a frame can carry: its address has three bytes, and its data are a page at most
 abbrev pub Sendable : Kind → ℕ → ℕ → Type 0
-Sendable kind address n = (inside largest kind address ≡ true) × (fills largest kind n ≡ true)
+Sendable kind address n = (inside largest kind address ≡ true) × (takes_length largest kind n ≡ true)

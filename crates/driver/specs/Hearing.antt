@@ -17,7 +17,7 @@ use Rattle.driver.specs.Frames.{status_frame, identify_frame, read_frame}
 use Rattle.driver.specs.Carries.{carried_out, asks_status}
 use Rattle.driver.specs.Driving.{lowered}
 
-pub hears-built : (c : Chip) (o : Operation) (a n : ℕ) (d : List ℕ) → a < 16777216 → ((listed o).carries ≡ true → 0 < length d) → allows (listed o).back n ≡ true
+pub hears-built : (c : Chip) (o : Operation) (a n : ℕ) (d : List ℕ) → a < 16777216 → ((listed o).has_data ≡ true → 0 < length d) → allows (listed o).back n ≡ true
     → hears c (frame (built o a d) n) ≡ heard c.busy (length c.image) (meant o a d)
 hears-built c o a n d h p t = ap (heard c.busy (length c.image)) (understood o a n d h p ∙ cond-true _ _ _ t)
 

@@ -19,7 +19,7 @@ use Rattle.port.proofs.Building.{understood}
 use Rattle.port.proofs.Hearing.{enable-heard, enable-ordered}
 use Rattle.part.specs.declared.outline.Outline.{Outline}
 use Rattle.part.specs.Outline.{outlined, guarding}
-use Rattle.part.specs.Verdict.{inside, fills, presets}
+use Rattle.part.specs.Verdict.{inside, takes_length, presets}
 use Rattle.part.specs.Guards.{guard_at, free-guards}
 use Rattle.driver.specs.Frames.{Sendable, largest, enable_frame, cycle_frame, looks}
 use Rattle.port.specs.Operations.{operation_of}
@@ -31,14 +31,14 @@ use Rattle.driver.specs.Reading.{reads_carry, reads-harmless, reads_no_status}
 inside_most : (o : Outline) (a : ℕ) → nat_lt a (size (outlined o)) ≡ true → nat_lt a 16777216 ≡ true
 inside_most o a e = lt-ltb _ _ (omega (arith, ltb-true _ _ e, o.geometry.small))
 
-pub sendable : (o : Outline) (kind : Kind) (a n : ℕ) → inside (outlined o) kind a ≡ true → fills (outlined o) kind n ≡ true → Sendable kind a n
+pub sendable : (o : Outline) (kind : Kind) (a n : ℕ) → inside (outlined o) kind a ≡ true → takes_length (outlined o) kind n ≡ true → Sendable kind a n
 sendable o of_kind.Program a n i f = (inside_most o a i, f)
 sendable o of_kind.Alter a n i f = (inside_most o a i, f)
 sendable o of_kind.Preset a n i f = (inside_most o a i, f)
 sendable o of_kind.SectorErase a n i f = (inside_most o a i, refl)
 sendable o of_kind.BulkErase a n i f = (refl, refl)
 
-pub length-cycle : (kind : Kind) (a : ℕ) (sent : List ℕ) → fills largest kind (length sent) ≡ true → length (built (operation_of kind) a sent) ≤ 68
+pub length-cycle : (kind : Kind) (a : ℕ) (sent : List ℕ) → takes_length largest kind (length sent) ≡ true → length (built (operation_of kind) a sent) ≤ 68
 unfolding table listed built
 length-cycle of_kind.Program a sent f = let m = (fits_page_facts largest sent f).1 in omega arith
 length-cycle of_kind.Alter a sent f = let m = (fits_page_facts largest sent f).1 in omega arith

@@ -12,32 +12,32 @@ use Rattle.part.specs.declared.fault.PartFault.{PartFault}
 use Rattle.part.specs.declared.fault.PartFault.TheVariants.{Outside, NoSector, PageData, Busy, Protected, NotBlank}
 use Rattle.part.specs.Meaning.{Meaning, Sound, protected_at}
 use Rattle.part.proofs.Sounds.{real}
-use Rattle.part.specs.Verdict.{check, inside, fills, presets, barred, form_refusal, idle, verdict_if, protection}
+use Rattle.part.specs.Verdict.{check, inside, takes_length, presets, told_address, form_refusal, idle, verdict_if, protection}
 use Rattle.fence.specs.Closed.{fenced, is_closed, bars, barred_by}
 use Rattle.fence.specs.Marks.{length-either, either_at, either-closed, either_open, free_open, free-closed}
 
 -- every page has 64 bytes
-pub fills-page : (m : Shape) (kind : Kind) (n : ℕ) → m.bytes ≡ 64 → fills m kind n ≡ fills (shaped 0 0) kind n
-fills-page m Program n e = ap (λ z. nat_lt 0 n && nat_le n z) e
-fills-page m Alter n e = ap (λ z. nat_lt 0 n && nat_le n z) e
-fills-page m Preset n e = ap (λ z. nat_lt 0 n && nat_le n z) e
-fills-page m SectorErase n e = refl
-fills-page m BulkErase n e = refl
+pub takes_length-page : (m : Shape) (kind : Kind) (n : ℕ) → m.bytes ≡ 64 → takes_length m kind n ≡ takes_length (shaped 0 0) kind n
+takes_length-page m Program n e = ap (λ z. nat_lt 0 n && nat_le n z) e
+takes_length-page m Alter n e = ap (λ z. nat_lt 0 n && nat_le n z) e
+takes_length-page m Preset n e = ap (λ z. nat_lt 0 n && nat_le n z) e
+takes_length-page m SectorErase n e = refl
+takes_length-page m BulkErase n e = refl
 
 module _ (m : Shape) (idle : Bool) (kind : Kind) (address n : ℕ) where
-  pub barred-busy : inside m kind address ≡ true → fills m kind n ≡ true → idle ≡ false → barred_by m idle kind address n ≡ Busy
+  pub barred-busy : inside m kind address ≡ true → takes_length m kind n ≡ true → idle ≡ false → barred_by m idle kind address n ≡ Busy
   barred-busy i f d = cond-true _ _ _ i ∙ (cond-true _ _ _ f ∙ cond-false _ _ _ d)
 
   pub barred_last :
-      inside m kind address ≡ true → fills m kind n ≡ true → idle ≡ true → barred_by m idle kind address n ≡ Protected (barred kind address)
+      inside m kind address ≡ true → takes_length m kind n ≡ true → idle ≡ true → barred_by m idle kind address n ≡ Protected (told_address kind address)
   barred_last i f d = cond-true _ _ _ i ∙ (cond-true _ _ _ f ∙ cond-true _ _ _ d)
 
   -- what is told is the first of the checks before protection that fails, and else the protection
-  pub barred-form : m.bytes ≡ 64 → barred_by m idle kind address n ≡ unwrap_or (form_refusal (size m) idle kind address n) (Protected (barred kind address))
+  pub barred-form : m.bytes ≡ 64 → barred_by m idle kind address n ≡ unwrap_or (form_refusal (size m) idle kind address n) (Protected (told_address kind address))
   barred-form e =
-      first (inside m kind address) (fills m kind n) idle (Outside address) (PageData n) Busy (Protected (barred kind address))
-      ∙ ap (λ f. unwrap_or (check (inside m kind address) (Outside address) (check f (PageData n) (check idle Busy None))) (Protected (barred kind address)))
-      (fills-page m kind n e)
+      first (inside m kind address) (takes_length m kind n) idle (Outside address) (PageData n) Busy (Protected (told_address kind address))
+      ∙ ap (λ f. unwrap_or (check (inside m kind address) (Outside address) (check f (PageData n) (check idle Busy None))) (Protected (told_address kind address)))
+      (takes_length-page m kind n e)
     where
       first : (i f d : Bool) (x y z v : PartFault) → cond i (cond f (cond d v z) y) x ≡ unwrap_or (check i x (check f y (check d z None))) v
       first true true true x y z v = refl
@@ -90,20 +90,20 @@ module _ (m : Meaning) (S : Sound m) (closed : List Bool) where
       (clean : Bool) (kind : Kind) (address : ℕ) (sent : List ℕ) → bars m.shape closed kind address ≡ true
       → verdict_if (fenced m closed) clean kind address sent ≡ Some (barred_by m.shape (idle m) kind address (length sent))
   barred-verdict clean kind address sent b =
-      stopped (inside m.shape kind address) (fills m.shape kind (length sent)) (idle m)
+      stopped (inside m.shape kind address) (takes_length m.shape kind (length sent)) (idle m)
       (permits m.shape (protected_at (fenced m closed)) kind address) (presets kind clean) (Outside address) (PageData (length sent)) Busy
-      (Protected (barred kind address)) (NotBlank address) (barred-permits kind address b)
+      (Protected (told_address kind address)) (NotBlank address) (barred-permits kind address b)
 
   -- with the protection told where the checks before it are passed
   pub formed-verdict :
       (clean : Bool) (kind : Kind) (address : ℕ) (sent : List ℕ) → bars m.shape closed kind address ≡ true
       → (bytes : ℕ) (busy : Bool) → bytes ≡ size m.shape → busy ≡ not (idle m) → None ≡ form_refusal bytes (not busy) kind address (length sent)
-      → verdict_if (fenced m closed) clean kind address sent ≡ Some (Protected (barred kind address))
+      → verdict_if (fenced m closed) clean kind address sent ≡ Some (Protected (told_address kind address))
   formed-verdict clean kind address sent b bytes busy s i e =
       barred-verdict clean kind address sent b
       ∙ ap Some
       (barred-form m.shape (idle m) kind address (length sent) S.page
-      ∙ ap (λ o. unwrap_or o (Protected (barred kind address)))
+      ∙ ap (λ o. unwrap_or o (Protected (told_address kind address)))
       (sym (e ∙ ap₂ (λ x y. form_refusal x y kind address (length sent)) s (ap not i ∙ not-not (idle m)))))
 
   open_permits :
@@ -123,8 +123,8 @@ module _ (m : Meaning) (S : Sound m) (closed : List Bool) where
       ap
       (λ p.
       check (inside m.shape kind address) (Outside address)
-      (check (fills m.shape kind (length sent)) (PageData (length sent))
-      (check (idle m) Busy (check p (Protected (barred kind address)) (check (presets kind clean) (NotBlank address) None)))))
+      (check (takes_length m.shape kind (length sent)) (PageData (length sent))
+      (check (idle m) Busy (check p (Protected (told_address kind address)) (check (presets kind clean) (NotBlank address) None)))))
       (open_permits kind address b)
 
   pub fenced-sound : Sound (fenced m closed)

@@ -7,7 +7,7 @@ use Rattle.memory.specs.Protection.{free}
 use Rattle.part.specs.declared.fault.PartFault.{PartFault}
 use Rattle.part.specs.declared.fault.PartFault.TheVariants.{Outside, NoSector, PageData, Busy, Protected}
 use Rattle.part.specs.Meaning.{Meaning}
-use Rattle.part.specs.Verdict.{inside, fills, barred}
+use Rattle.part.specs.Verdict.{inside, takes_length, told_address}
 
 -- one mark for each sector that a part may have: none is closed
 unfoldable pub none_closed : List Bool
@@ -46,5 +46,5 @@ bars m closed BulkErase address = not (free (is_closed closed) m.sectors)
 abbrev pub barred_by : Shape → Bool → Kind → ℕ → ℕ → PartFault
 barred_by m idle kind address n =
     cond (inside m kind address)
-    (cond (fills m kind n) (cond idle (Protected (barred kind address)) Busy) (PageData n))
+    (cond (takes_length m kind n) (cond idle (Protected (told_address kind address)) Busy) (PageData n))
     (Outside address)

@@ -10,7 +10,7 @@ use memory::geometry::Geometry;
 use memory::kind::Kind;
 use part::fault::PartFault;
 use part::part::Part;
-use part::refusal::{barred, check_form};
+use part::refusal::{check_form, told_address};
 use part::size::size_of;
 
 impl<P: Part> Fence<P> {
@@ -71,7 +71,7 @@ impl<P: Part> Part for Fence<P> {
                 address,
                 data.len(),
             )?;
-            return Err(PartFault::Protected(barred(kind, address)));
+            return Err(PartFault::Protected(told_address(kind, address)));
         }
         self.part.cycle(kind, address, data)
     }

@@ -36,7 +36,7 @@ step-frame Preset a s = refl
 step-frame SectorErase a s = refl
 step-frame BulkErase a s = refl
 
-carried-sent : (kind : Kind) (a : ℕ) (s : List ℕ) → carried_by (listed (operation_of kind)).carries (sent_by (cycle_of kind a s)) ≡ sent_by (cycle_of kind a s)
+carried-sent : (kind : Kind) (a : ℕ) (s : List ℕ) → carried_by (listed (operation_of kind)).has_data (sent_by (cycle_of kind a s)) ≡ sent_by (cycle_of kind a s)
 unfolding table listed
 carried-sent Program a s = refl
 carried-sent Alter a s = refl
@@ -44,7 +44,7 @@ carried-sent Preset a s = refl
 carried-sent SectorErase a s = refl
 carried-sent BulkErase a s = refl
 
-head_most : (kind : Kind) → 1 + (listed (operation_of kind)).address + (listed (operation_of kind)).dummy ≤ 4
+head_most : (kind : Kind) → 1 + (listed (operation_of kind)).address_bytes + (listed (operation_of kind)).dummy_bytes ≤ 4
 unfolding table listed
 head_most Program = lit≤ tt
 head_most Alter = lit≤ tt
@@ -54,12 +54,12 @@ head_most BulkErase = lit≤ tt
 
 -- its length, by the row of the table
 pub frame-size : (kind : Kind) (i : Instruction) (a : ℕ) (s : List ℕ) → i ≡ listed (operation_of kind)
-    → (length (built (operation_of kind) a (sent_by (cycle_of kind a s))) ≡ 1 + i.address + i.dummy + length (sent_by (cycle_of kind a s))) × (1 + i.address + i.dummy ≤ 4)
+    → (length (built (operation_of kind) a (sent_by (cycle_of kind a s))) ≡ 1 + i.address_bytes + i.dummy_bytes + length (sent_by (cycle_of kind a s))) × (1 + i.address_bytes + i.dummy_bytes ≤ 4)
 frame-size kind i a s e =
     let l = length-built (operation_of kind) i a (sent_by (cycle_of kind a s)) e in
-    let c : length (carried_by i.carries (sent_by (cycle_of kind a s))) ≡ length (sent_by (cycle_of kind a s)) =
-    ap (λ (x : Instruction). length (carried_by x.carries (sent_by (cycle_of kind a s)))) e ∙ ap length (carried-sent kind a s) in
-    (omega arith, subst (λ (x : Instruction). 1 + x.address + x.dummy ≤ 4) (sym e) (head_most kind))
+    let c : length (carried_by i.has_data (sent_by (cycle_of kind a s))) ≡ length (sent_by (cycle_of kind a s)) =
+    ap (λ (x : Instruction). length (carried_by x.has_data (sent_by (cycle_of kind a s)))) e ∙ ap length (carried-sent kind a s) in
+    (omega arith, subst (λ (x : Instruction). 1 + x.address_bytes + x.dummy_bytes ≤ 4) (sym e) (head_most kind))
 
 pub some_bytes : (o : Operation) (a : ℕ) (s : List ℕ) → 0 < length (built o a s)
 some_bytes o a s = let l = length-built o (listed o) a s refl in omega arith
@@ -177,7 +177,7 @@ module _ (sent : List ℕ) (s : Step) (o : Operation) (bytes : List ℕ) (e : o 
 
 -- the length of a step's lines, by the row of the table and the data
 pub step-lines : (sent : List ℕ) (s : Step) (i : Instruction) (o : Operation) (bytes : List ℕ) → unlisted sent s ≡ None → i ≡ listed o → o ≡ operation_of s.kind → bytes ≡ sent_by (step_cycle sent s)
-    → (length (plan_text sent (s ∷ [])) ≡ 3 + 3 * (1 + i.address + i.dummy + length bytes)) × (1 + i.address + i.dummy ≤ 4) × (length bytes ≤ 64)
+    → (length (plan_text sent (s ∷ [])) ≡ 3 + 3 * (1 + i.address_bytes + i.dummy_bytes + length bytes)) × (1 + i.address_bytes + i.dummy_bytes ≤ 4) × (length bytes ≤ 64)
 step-lines sent s i o bytes ok r e b =
     let f = frame-size s.kind i s.address (block s.place s.length sent) (r ∙ ap listed e) in
     let n = ap length b in

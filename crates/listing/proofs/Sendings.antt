@@ -47,8 +47,8 @@ built-sendable : (o : Operation) (a : ℕ) (s : List ℕ) → Bytes s → Sendab
 unfolding built
 built-sendable o a s h =
     let P : ℕ → Type 0 = λ b. b < 256 in
-    let d = All-append P (replicate (listed o).dummy 0) (carried_by (listed o).carries s) (dummy_bytes (listed o).dummy) (carried-bytes (listed o).carries s h) in
-    sendable (listed o).code 0 _ (code_byte o) (All-append P (high_first (listed o).address a) _ (address_bytes (listed o).address a) d) (lit< tt)
+    let d = All-append P (replicate (listed o).dummy_bytes 0) (carried_by (listed o).has_data s) (dummy_bytes (listed o).dummy_bytes) (carried-bytes (listed o).has_data s h) in
+    sendable (listed o).code 0 _ (code_byte o) (All-append P (high_first (listed o).address_bytes a) _ (address_bytes (listed o).address_bytes a) d) (lit< tt)
 
 cycle-sendable : (y : Cycle) → Bytes (sent_by y) → Sendable (sending y)
 cycle-sendable (program a s) h = built-sendable Program a s h

@@ -9,7 +9,7 @@ use Rattle.memory.specs.Cycle.{cycle_of, permits, accepts}
 use Rattle.part.specs.declared.fault.PartFault.{PartFault}
 use Rattle.part.specs.declared.fault.PartFault.TheVariants.{Outside, PageData, Busy, Protected, NotBlank}
 use Rattle.part.specs.Meaning.{protected_at}
-use Rattle.part.specs.Verdict.{Accepting, check, refusal, inside, fills, barred, presets, idle, clean_at}
+use Rattle.part.specs.Verdict.{Accepting, check, refusal, inside, takes_length, told_address, presets, idle, clean_at}
 
 -- five checks, the third of them passed
 checked : (d i f p b : Bool) (x y z v w : PartFault) → d ≡ true
@@ -26,15 +26,15 @@ checked d i f p b x y z v w e = ap (λ t. not (is_some (check i x (check f y (ch
 
 pub unrefused : (m : Shape) (prot : ℕ → Bool) (idle clean : Bool) (kind : Kind) (address n : ℕ) → idle ≡ true
     → not (is_some (refusal m prot idle clean kind address n))
-    ≡ (((inside m kind address && permits m prot kind address) && fills m kind n) && presets kind clean)
+    ≡ (((inside m kind address && permits m prot kind address) && takes_length m kind n) && presets kind clean)
 unrefused m prot idle clean kind address n e =
-    checked idle (inside m kind address) (fills m kind n) (permits m prot kind address) (presets kind clean)
-    (Outside address) (PageData n) Busy (Protected (barred kind address)) (NotBlank address) e
+    checked idle (inside m kind address) (takes_length m kind n) (permits m prot kind address) (presets kind clean)
+    (Outside address) (PageData n) Busy (Protected (told_address kind address)) (NotBlank address) e
 
 pub accepting : Accepting
 accepting m kind address sent due = unrefused m.shape (protected_at m) (idle m) (clean_at m address) kind address (length sent) (eq-eqb _ _ due) ∙ by kind
   where
-    by : (kind : Kind) → (((inside m.shape kind address && permits m.shape (protected_at m) kind address) && fills m.shape kind (length sent)) && presets kind (clean_at m address))
+    by : (kind : Kind) → (((inside m.shape kind address && permits m.shape (protected_at m) kind address) && takes_length m.shape kind (length sent)) && presets kind (clean_at m address))
         ≡ accepts m.shape (protected_at m) (cycle_of kind address sent) m.image
     by Program = and-true _
     by Alter = and-true _

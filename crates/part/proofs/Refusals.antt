@@ -12,7 +12,7 @@ use Rattle.part.specs.declared.fault.PartFault.TheVariants.{Outside, PageData, B
 use Rattle.part.specs.declared.outline.Outline.{Outline}
 use Rattle.part.specs.Meaning.{Meaning, protected_at}
 use Rattle.part.specs.Outline.{Outlines, outlined, guarding}
-use Rattle.part.specs.Verdict.{check, refusal, read_refusal, inside, fills, barred, presets, idle, clean_at, verdict, read_verdict, told}
+use Rattle.part.specs.Verdict.{check, refusal, read_refusal, inside, takes_length, told_address, presets, idle, clean_at, verdict, read_verdict, told}
 use Rattle.part.proofs.Accepting.{accepting, presets_clean}
 
 -- what is told, and why
@@ -38,12 +38,12 @@ early false f d p b x y z v w g e = e
 -- each check was passed
 pub record Passes (i f d p : Bool) : Type 0 where
   pub inside : i ≡ true
-  pub fills : f ≡ true
+  pub takes_length : f ≡ true
   pub idle : d ≡ true
   pub permits : p ≡ true
 
 passed : (i f d p b : Bool) (x y z v w : PartFault) → five i f d p b x y z v w ≡ None → Passes i f d p
-passed true true true true b x y z v w e = record { inside = refl; fills = refl; idle = refl; permits = refl }
+passed true true true true b x y z v w e = record { inside = refl; takes_length = refl; idle = refl; permits = refl }
 passed true true true false b x y z v w e = absurd (none-some v (sym e))
 passed true true false p b x y z v w e = absurd (none-some z (sym e))
 passed true false d p b x y z v w e = absurd (none-some y (sym e))
@@ -58,24 +58,24 @@ late false f d p b x y z v w e = absurd (none-some x (sym e))
 
 module _ (m : Shape) (prot : ℕ → Bool) (idle : Bool) (kind : Kind) (address n : ℕ) where
   abbrev with : Bool → Option PartFault
-  with b = five (inside m kind address) (fills m kind n) idle (permits m prot kind address) b (Outside address) (PageData n) Busy (Protected (barred kind address)) (NotBlank address)
+  with b = five (inside m kind address) (takes_length m kind n) idle (permits m prot kind address) b (Outside address) (PageData n) Busy (Protected (told_address kind address)) (NotBlank address)
 
   pub refused_early : (clean : Bool) (f : PartFault) → refusal m prot idle true kind address n ≡ Some f → refusal m prot idle clean kind address n ≡ Some f
   refused_early clean f e =
-      early (inside m kind address) (fills m kind n) idle (permits m prot kind address) (presets kind clean) (Outside address) (PageData n) Busy
-      (Protected (barred kind address)) (NotBlank address) f (sym (ap with (presets_clean kind)) ∙ e)
+      early (inside m kind address) (takes_length m kind n) idle (permits m prot kind address) (presets kind clean) (Outside address) (PageData n) Busy
+      (Protected (told_address kind address)) (NotBlank address) f (sym (ap with (presets_clean kind)) ∙ e)
 
   pub refused_late : (clean : Bool) → refusal m prot idle true kind address n ≡ None
       → refusal m prot idle clean kind address n ≡ check (presets kind clean) (NotBlank address) None
   refused_late clean e =
-      late (inside m kind address) (fills m kind n) idle (permits m prot kind address) (presets kind clean) (Outside address) (PageData n) Busy
-      (Protected (barred kind address)) (NotBlank address) (sym (ap with (presets_clean kind)) ∙ e)
+      late (inside m kind address) (takes_length m kind n) idle (permits m prot kind address) (presets kind clean) (Outside address) (PageData n) Busy
+      (Protected (told_address kind address)) (NotBlank address) (sym (ap with (presets_clean kind)) ∙ e)
 
   pub all_passed : (clean : Bool) → refusal m prot idle clean kind address n ≡ None
-      → Passes (inside m kind address) (fills m kind n) idle (permits m prot kind address)
+      → Passes (inside m kind address) (takes_length m kind n) idle (permits m prot kind address)
   all_passed clean e =
-      passed (inside m kind address) (fills m kind n) idle (permits m prot kind address) (presets kind clean) (Outside address) (PageData n) Busy
-      (Protected (barred kind address)) (NotBlank address) e
+      passed (inside m kind address) (takes_length m kind n) idle (permits m prot kind address) (presets kind clean) (Outside address) (PageData n) Busy
+      (Protected (told_address kind address)) (NotBlank address) e
 
   pub done_all : (clean : Bool) → refusal m prot idle true kind address n ≡ None → presets kind clean ≡ true → refusal m prot idle clean kind address n ≡ None
   done_all clean e t = refused_late clean e ∙ cond-true _ _ _ t

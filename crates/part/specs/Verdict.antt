@@ -25,21 +25,21 @@ within size BulkErase address = true
 abbrev pub inside : Shape → Kind → ℕ → Bool
 inside m kind address = within (size m) kind address
 
--- 2: one byte at least, one page at most; an erase has no data
-abbrev pub fills : Shape → Kind → ℕ → Bool
-fills m Program n = nat_lt 0 n && nat_le n m.bytes
-fills m Alter n = nat_lt 0 n && nat_le n m.bytes
-fills m Preset n = nat_lt 0 n && nat_le n m.bytes
-fills m SectorErase n = true
-fills m BulkErase n = true
+-- 2: one byte at least, one page at most; an erase has no data, and takes any number
+abbrev pub takes_length : Shape → Kind → ℕ → Bool
+takes_length m Program n = nat_lt 0 n && nat_le n m.bytes
+takes_length m Alter n = nat_lt 0 n && nat_le n m.bytes
+takes_length m Preset n = nat_lt 0 n && nat_le n m.bytes
+takes_length m SectorErase n = true
+takes_length m BulkErase n = true
 
 -- 4: nothing that the cycle alters is protected (`permits`), and the address that is told where something is
-abbrev pub barred : Kind → ℕ → ℕ
-barred Program address = address
-barred Alter address = address
-barred Preset address = address
-barred SectorErase address = address
-barred BulkErase address = 0
+abbrev pub told_address : Kind → ℕ → ℕ
+told_address Program address = address
+told_address Alter address = address
+told_address Preset address = address
+told_address SectorErase address = address
+told_address BulkErase address = 0
 
 -- 5: a preset's page is wholly FFh, which `clean` says
 abbrev pub presets : Kind → Bool → Bool
@@ -52,15 +52,15 @@ presets BulkErase clean = true
 -- 1 to 3 alone, of a memory of so many bytes, each page of which has 64
 abbrev pub form_refusal : ℕ → Bool → Kind → ℕ → ℕ → Option PartFault
 form_refusal size idle kind address n =
-    check (within size kind address) (Outside address) (check (fills (shaped 0 0) kind n) (PageData n) (check idle Busy None))
+    check (within size kind address) (Outside address) (check (takes_length (shaped 0 0) kind n) (PageData n) (check idle Busy None))
 
 -- why a cycle with n bytes of data is refused, if it is
 abbrev pub refusal : Shape → (ℕ → Bool) → Bool → Bool → Kind → ℕ → ℕ → Option PartFault
 refusal m prot idle clean kind address n =
     check (inside m kind address) (Outside address)
-    (check (fills m kind n) (PageData n)
+    (check (takes_length m kind n) (PageData n)
     (check idle Busy
-    (check (permits m prot kind address) (Protected (barred kind address))
+    (check (permits m prot kind address) (Protected (told_address kind address))
     (check (presets kind clean) (NotBlank address) None))))
 
 -- why a read of n bytes is refused, if it is

@@ -15,9 +15,9 @@ pub enum PartFault {
     NotBlank(usize),
 }
 
-// Why a plain image cannot be made. A bench chip has a `Making` of its own: another layer tells it, and it has a case more.
+// Why a plain image cannot be made. `port::fault::ChipMaking` is a bench chip's: another layer tells it, and it has a case more.
 #[derive(Clone, Copy, PartialEq, Eq, Debug)]
-pub enum Making {
+pub enum PlainMaking {
     // not 1 to 128 sectors of 1 to 2,048 pages
     Geometry = 1,
     // the bytes are not those of the sectors

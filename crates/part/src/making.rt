@@ -4,20 +4,20 @@ ghost use Rattle.part.specs.Verdict.{clean_at, presets};
 ghost use Rattle.part.specs.Outline.{Outlines};
 ghost use Rattle.part.specs.Plain.{fresh, imaging, plainly, unmade};
 
-use crate::fault::Making;
+use crate::fault::PlainMaking;
 use crate::outline::Outline;
 use crate::plain::PlainImage;
 use memory::image::{Image, ImageFault, Unmade};
 use memory::kind::Kind;
 use memory::protection::Status;
 
-impl From<ImageFault> for Making {
+impl From<ImageFault> for PlainMaking {
     ghost from_gives = { λ fault making. making ≡ imaging fault };
 
-    fn from(fault: ImageFault) -> Making {
+    fn from(fault: ImageFault) -> PlainMaking {
         match fault {
-            ImageFault::Geometry => Making::Geometry,
-            ImageFault::Length => Making::Length,
+            ImageFault::Geometry => PlainMaking::Geometry,
+            ImageFault::Length => PlainMaking::Length,
         }
     }
 }
@@ -30,7 +30,7 @@ impl PlainImage {
         pages: usize,
         status: u8,
         bytes: Vec<u8>,
-    ) -> Result<PlainImage, Unmade<Making>>
+    ) -> Result<PlainImage, Unmade<PlainMaking>>
         ensures { MatchResult result
             (λ p. (unmade sectors pages status (vec_len bytes) ≡ None) × (plainly p ≡ fresh sectors pages status bytes.items) × (p.image.bytes ≡ bytes))
             (λ u. (unmade sectors pages status (vec_len bytes) ≡ Some u.fault) × (u.bytes ≡ bytes)) }
@@ -38,7 +38,7 @@ impl PlainImage {
         let image = Image::new(sectors, pages, bytes).map_err(|unmade| unmade.convert())?;
         let Some(status) = Status::new(status) else {
             return Err(Unmade {
-                fault: Making::Status,
+                fault: PlainMaking::Status,
                 bytes: image.into_bytes(),
             });
         };
@@ -50,7 +50,7 @@ impl PlainImage {
     }
 
     // The bytes as they stand.
-    pub fn into_image(self) -> Vec<u8>
+    pub fn into_bytes(self) -> Vec<u8>
         ensures { result ≡ self.image.bytes }
     {
         let PlainImage {

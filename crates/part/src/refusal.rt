@@ -3,7 +3,7 @@ ghost use Rattle.std.specs.Prelude.{◌≡◌, true, not, if◌then◌else◌, O
 ghost use Rattle.memory.specs.Shape.{shaped};
 ghost use Rattle.part.specs.declared.fault.PartFault.TheVariants.{NoSector};
 ghost use Rattle.memory.specs.Cycle.{permits};
-ghost use Rattle.part.specs.Verdict.{Accepting, barred, fills, form_refusal, read_refusal, refusal, told};
+ghost use Rattle.part.specs.Verdict.{Accepting, form_refusal, read_refusal, refusal, takes_length, told, told_address};
 ghost use Rattle.part.specs.Outline.{guarding, outlined};
 
 use crate::fault::PartFault;
@@ -57,7 +57,7 @@ impl Outline {
     {
         check_form(self.geometry.size(), self.busy, kind, address, n)?;
         if !self.permits(kind, address) {
-            return Err(PartFault::Protected(barred(kind, address)));
+            return Err(PartFault::Protected(told_address(kind, address)));
         }
         Ok(())
     }
@@ -77,7 +77,7 @@ pub fn check_form(
     if !is_within(size, kind, address) {
         return Err(PartFault::Outside(address));
     }
-    if !fills_page(kind, n) {
+    if !takes_length(kind, n) {
         return Err(PartFault::PageData(n));
     }
     if busy {
@@ -86,16 +86,16 @@ pub fn check_form(
     Ok(())
 }
 
-// Whether n bytes of data suit a cycle of this kind: one at least and a page at most; an erase has none.
-pub fn fills_page(kind: Kind, n: usize) -> bool
-    ensures { result ≡ fills (shaped 0 0) kind n }
+// Whether a cycle of this kind takes n bytes of data: one at least and a page at most. An erase has no data, and takes any number.
+pub fn takes_length(kind: Kind, n: usize) -> bool
+    ensures { result ≡ takes_length (shaped 0 0) kind n }
 {
     !kind.has_data() || ((1..=PAGE_BYTES).contains(&n))
 }
 
 // The address that is told where a cycle meets protection: a bulk erase has none, and tells 0.
-pub fn barred(kind: Kind, address: usize) -> usize
-    ensures { result ≡ barred kind address }
+pub fn told_address(kind: Kind, address: usize) -> usize
+    ensures { result ≡ told_address kind address }
 {
     if kind.has_address() { address } else { 0 }
 }

@@ -1,7 +1,7 @@
 // A part's refusal as it is reported.
 ghost use Rattle.part.specs.Rows.{making_row, row};
 
-use crate::fault::{Making, PartFault};
+use crate::fault::{PartFault, PlainMaking};
 use memory::report::{Cause, Layer, Report, Reported};
 
 impl Reported for PartFault {
@@ -19,7 +19,7 @@ impl Reported for PartFault {
     }
 }
 
-impl Reported for Making {
+impl Reported for PlainMaking {
     ghost row = { making_row };
 
     fn report(self) -> Report {

@@ -20,8 +20,8 @@ use Rattle.least.specs.Plan.{keep_page, erased_page, least_cost, keep_cycles, pr
 use Rattle.least.specs.Steps.{steps_of, data_of}
 use Rattle.least.specs.Writes.{planned, refused, past_the_end, steps_short, data_short, unless_barred, unless_short, plan_write}
 use Rattle.planner.specs.Looking.{Fitting, wanted}
-use Rattle.planner.specs.declared.chosen.Pages.{Pages}
-use Rattle.planner.specs.declared.chosen.Pages.TheVariants as pages
+use Rattle.planner.specs.declared.chosen.Treatment.{Treatment}
+use Rattle.planner.specs.declared.chosen.Treatment.TheVariants as treatment
 use Rattle.planner.specs.declared.chosen.Erasure.{Erasure}
 use Rattle.planner.specs.declared.chosen.Erasure.TheVariants.{All, Sectors}
 use Rattle.planner.specs.Choice.{Chosen, Erased}
@@ -62,8 +62,8 @@ module _ (m : Meaning) (S : Sound m) (address : ℕ) (bytes : List ℕ) where
   -- a sector by the test of its costs
   sector_by :
       (k : ℕ) (b : Bool)
-      → sector_list m address bytes (cond (not b) pages.Erased pages.Kept) k
-      ≡ cond b (sector_list m address bytes pages.Kept k) (sector_list m address bytes pages.Erased k)
+      → sector_list m address bytes (cond (not b) treatment.Erased treatment.Kept) k
+      ≡ cond b (sector_list m address bytes treatment.Kept k) (sector_list m address bytes treatment.Erased k)
   sector_by k true = refl
   sector_by k false = refl
 
@@ -84,7 +84,7 @@ module _ (m : Meaning) (S : Sound m) (address : ℕ) (bytes : List ℕ) where
 
   module _ (c : Choice) (chosen : Chosen m address bytes c) where
     sectors_list_lem :
-        (marks : List Pages) → Erased m address bytes (Sectors marks) → sectors_list m address bytes marks ≡ by_sectors_at 64
+        (marks : List Treatment) → Erased m address bytes (Sectors marks) → sectors_list m address bytes marks ≡ by_sectors_at 64
     sectors_list_lem marks e =
         list_same m.shape.sectors _ _
         (λ k l. ap (λ p. sector_list m address bytes p k) (e.1 k l) ∙ sector_by k (fewest.leq (over_sector fewest m.shape (keep_at 64) k) (erase_cost fewest m.shape (erased_at 64) k)))
@@ -105,7 +105,7 @@ module _ (m : Meaning) (S : Sound m) (address : ℕ) (bytes : List ℕ) where
         ∙ plan_at_lem)
 
     pub sectors_are :
-        (marks : List Pages) → c.erasure ≡ Sectors marks → sectors_list m address bytes marks ≡ plan_list m address bytes
+        (marks : List Treatment) → c.erasure ≡ Sectors marks → sectors_list m address bytes marks ≡ plan_list m address bytes
     sectors_are marks e =
         let x = erased_by (Sectors marks) e in
         sectors_list_lem marks x

@@ -6,8 +6,8 @@ use Rattle.least.specs.Cost.{sum_to}
 use Rattle.least.specs.Fewest.{fewest}
 use Rattle.least.specs.Plan.{keep_page, erased_page}
 use Rattle.least.specs.Sectors.{over_sector, erase_cost, sectors_cost, bulk_cost}
-use Rattle.planner.specs.declared.chosen.Pages.{Pages}
-use Rattle.planner.specs.declared.chosen.Pages.TheVariants.{Kept, Erased}
+use Rattle.planner.specs.declared.chosen.Treatment.{Treatment}
+use Rattle.planner.specs.declared.chosen.Treatment.TheVariants.{Kept, Erased}
 use Rattle.planner.specs.Looking.{touched, wanted}
 
 -- no more than n pages cost
@@ -52,9 +52,9 @@ module _ (m : Meaning) (address : ℕ) (bytes : List ℕ) where
   abbrev pub erases : ℕ → Bool
   erases k = not (fewest.leq (over_sector fewest m.shape kept k) (erase_cost fewest m.shape preset k))
 
-  -- and so its pages
-  abbrev pub sector_pages : ℕ → Pages
-  sector_pages k = cond (erases k) Erased Kept
+  -- and how its pages are written
+  abbrev pub sector_treatment : ℕ → Treatment
+  sector_treatment k = cond (erases k) Erased Kept
 
   abbrev pub by_sectors : ℕ × ℕ
   by_sectors = sectors_cost fewest m.shape kept preset

@@ -6,11 +6,11 @@ ghost use Rattle.least.specs.Fewest.{fewest};
 ghost use Rattle.least.specs.Sectors.{bulk_cost, over_sector, sector_cost};
 ghost use Rattle.planner.specs.Asking.{for_bulk, whole};
 ghost use Rattle.planner.specs.Looking.{Fitting, LookedBy};
-ghost use Rattle.planner.specs.Survey.{UpTo, below, by_sectors, kept, on_all, preset, preset_on, sector_pages};
-ghost use Rattle.planner.specs.declared.chosen.Pages.TheVariants.{Kept};
+ghost use Rattle.planner.specs.Survey.{UpTo, below, by_sectors, kept, on_all, preset, preset_on, sector_treatment};
+ghost use Rattle.planner.specs.declared.chosen.Treatment.TheVariants.{Kept};
 ghost use Rattle.planner.specs.Choice.{Chosen};
 
-use crate::chosen::{Choice, Erasure, Pages};
+use crate::chosen::{Choice, Erasure, Treatment};
 use crate::look::protects;
 use crate::overlay::Write;
 use crate::survey::{Costs, erase_costs, touched_costs};
@@ -21,7 +21,7 @@ use part::part::Part;
 // How the pages of a sector are written, and what it then costs.
 #[derive(Clone, Copy)]
 struct Sector {
-    pages: Pages,
+    treatment: Treatment,
     costs: Costs,
 }
 
@@ -29,7 +29,7 @@ fn sector_cost<P: Part>(part: &mut P, write: Write<'_>, k: usize) -> Sector
     requires { Fitting (P.Part.meaning part.old) write.address write.bytes.now × (k < (P.Part.meaning part.old).shape.sectors) }
     ensures looked { LookedBy P.Part (64 * (P.Part.meaning part.old).shape.pages) part.old part.new }
     ensures bound { UpTo 4097 result.costs.cost × UpTo 2048 result.costs.presets }
-    ensures pages { result.pages ≡ sector_pages (P.Part.meaning part.old) write.entry.address write.entry.bytes.now k }
+    ensures treatment { result.treatment ≡ sector_treatment (P.Part.meaning part.old) write.entry.address write.entry.bytes.now k }
     ensures value { result.costs.cost ≡ sector_cost fewest (P.Part.meaning part.old).shape (kept (P.Part.meaning part.old) write.entry.address write.entry.bytes.now) (preset (P.Part.meaning part.old) write.entry.address write.entry.bytes.now) k }
     ensures touched { result.costs.presets ≡ over_sector fewest (P.Part.meaning part.old).shape (preset_on (P.Part.meaning part.old) write.entry.address write.entry.bytes.now) k }
 {
@@ -38,29 +38,29 @@ fn sector_cost<P: Part>(part: &mut P, write: Write<'_>, k: usize) -> Sector
     let kept = touched_costs(part, write, first, pages);
     match erase_costs(part, write, first, pages, kept.presets, kept.cost) {
         Some(cost) => Sector {
-            pages: Pages::Erased,
+            treatment: Treatment::Erased,
             costs: Costs { cost, ..kept },
         },
         None => Sector {
-            pages: Pages::Kept,
+            treatment: Treatment::Kept,
             costs: kept,
         },
     }
 }
 
 // What the sectors cost together, and the presets of all touched pages. Marks each sector.
-fn sector_costs<P: Part>(part: &mut P, write: Write<'_>, marks: &mut [Pages]) -> Costs
+fn sector_costs<P: Part>(part: &mut P, write: Write<'_>, marks: &mut [Treatment]) -> Costs
     requires { Fitting (P.Part.meaning part.old) write.address write.bytes.now × (length marks.old ≡ (P.Part.meaning part.old).shape.sectors) }
     ensures looked { LookedBy P.Part (whole (P.Part.meaning part.old)) part.old part.new }
     ensures bound { UpTo 262144 result.presets }
     ensures value { result.cost ≡ by_sectors (P.Part.meaning part.old) write.entry.address write.entry.bytes.now }
     ensures touched { result.presets ≡ on_all (P.Part.meaning part.old) write.entry.address write.entry.bytes.now }
-    ensures marks { (k : ℕ) → k < (P.Part.meaning part.old).shape.sectors → slice_index_or marks.new k Kept ≡ sector_pages (P.Part.meaning part.old) write.entry.address write.entry.bytes.now k }
+    ensures marks { (k : ℕ) → k < (P.Part.meaning part.old).shape.sectors → slice_index_or marks.new k Kept ≡ sector_treatment (P.Part.meaning part.old) write.entry.address write.entry.bytes.now k }
 {
     let mut costs = Costs::NONE;
     for (k, mark) in marks.iter_mut().enumerate() {
         let sector = sector_cost(part, write, k);
-        *mark = sector.pages;
+        *mark = sector.treatment;
         costs += sector.costs;
     }
     costs
@@ -92,7 +92,7 @@ pub(crate) fn choose<P: Part>(part: &mut P, write: Write<'_>) -> Choice
     ensures value { Chosen (P.Part.meaning part.old) write.entry.address write.entry.bytes.now result }
 {
     // the part's sectors are the first of them
-    let mut marks = [Pages::Kept; MOST_SECTORS];
+    let mut marks = [Treatment::Kept; MOST_SECTORS];
     let count = part.sectors();
     let sectors = sector_costs(part, write, &mut marks[..count]);
     match bulk_cost(part, write, sectors.presets, sectors.cost) {

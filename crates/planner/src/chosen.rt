@@ -3,9 +3,9 @@
 use least::cost::Cost;
 use memory::geometry::MOST_SECTORS;
 
-// Pages that are written as they stand, or once erased.
+// How pages are written: as they stand, or once erased.
 #[derive(Clone, Copy, PartialEq, Eq, Debug)]
-pub enum Pages {
+pub enum Treatment {
     Kept,
     Erased,
 }
@@ -15,7 +15,7 @@ pub enum Pages {
 pub enum Erasure {
     All,
     // a mark for each sector that a part can have: the planner has no heap, and a part says only when it runs how many it has
-    Sectors([Pages; MOST_SECTORS]),
+    Sectors([Treatment; MOST_SECTORS]),
 }
 
 #[derive(Clone, Copy)]

@@ -10,7 +10,7 @@ ghost use Rattle.planner.specs.Lists.{bulk_list, page_list, pages_list, sector_l
 ghost use Rattle.planner.specs.Choice.{Chosen};
 ghost use Rattle.planner.specs.Call.{plan_list};
 
-use crate::chosen::{Choice, Erasure, Pages};
+use crate::chosen::{Choice, Erasure, Treatment};
 use crate::look::{both_pages, wanted_page};
 use crate::overlay::Write;
 use crate::page::{BLANK, Page, only_lowers};
@@ -34,23 +34,29 @@ fn kept_kind(old: &Page, new: &Page) -> Kind
 
 // Page q. It is read only if there is room for a step, and as it stands only if the write touches it, once erased only if
 // the write does not cover it.
-fn put_page<P: Part>(part: &mut P, write: Write<'_>, pages: Pages, q: usize, sheet: &mut Sheet<'_>)
+fn put_page<P: Part>(
+    part: &mut P,
+    write: Write<'_>,
+    treatment: Treatment,
+    q: usize,
+    sheet: &mut Sheet<'_>,
+)
     requires { Fitting (P.Part.meaning part.old) write.address write.bytes.now × Readable (P.Part.meaning part.old) q }
     ensures looked { LookedBy P.Part 64 part.old part.new }
-    ensures sent { Sent (page_list (P.Part.meaning part.old) write.entry.address write.entry.bytes.now pages q) sheet.old sheet.new }
+    ensures sent { Sent (page_list (P.Part.meaning part.old) write.entry.address write.entry.bytes.now treatment q) sheet.old sheet.new }
 {
     if sheet.is_full() {
         return;
     }
-    match pages {
-        Pages::Kept => {
+    match treatment {
+        Treatment::Kept => {
             if write.touches(q) {
                 let (old, new) = both_pages(part, write, q);
                 let kind = kept_kind(&old, &new);
                 sheet.put_page(kind, q, &old, &new);
             }
         }
-        Pages::Erased => {
+        Treatment::Erased => {
             let new = wanted_page(part, write, q);
             sheet.put_page(Kind::Preset, q, &BLANK, &new);
         }
@@ -61,7 +67,7 @@ fn put_page<P: Part>(part: &mut P, write: Write<'_>, pages: Pages, q: usize, she
 fn put_pages<P: Part>(
     part: &mut P,
     write: Write<'_>,
-    pages: Pages,
+    treatment: Treatment,
     first: usize,
     count: usize,
     sheet: &mut Sheet<'_>,
@@ -69,10 +75,10 @@ fn put_pages<P: Part>(
     requires fitting { Fitting (P.Part.meaning part.old) write.address write.bytes.now }
     requires count_bound { PagesIn (P.Part.meaning part.old) first count }
     ensures looked { LookedBy P.Part (64 * count) part.old part.new }
-    ensures sent { Sent (pages_list (P.Part.meaning part.old) write.entry.address write.entry.bytes.now pages first count) sheet.old sheet.new }
+    ensures sent { Sent (pages_list (P.Part.meaning part.old) write.entry.address write.entry.bytes.now treatment first count) sheet.old sheet.new }
 {
     for q in first..first + count {
-        put_page(part, write, pages, q, sheet);
+        put_page(part, write, treatment, q, sheet);
     }
 }
 
@@ -80,27 +86,27 @@ fn put_pages<P: Part>(
 fn put_sector<P: Part>(
     part: &mut P,
     write: Write<'_>,
-    pages: Pages,
+    treatment: Treatment,
     k: usize,
     sheet: &mut Sheet<'_>,
 )
     requires { Fitting (P.Part.meaning part.old) write.address write.bytes.now × (k < (P.Part.meaning part.old).shape.sectors) }
     ensures looked { LookedBy P.Part (64 * (P.Part.meaning part.old).shape.pages) part.old part.new }
-    ensures sent { Sent (sector_list (P.Part.meaning part.old) write.entry.address write.entry.bytes.now pages k) sheet.old sheet.new }
+    ensures sent { Sent (sector_list (P.Part.meaning part.old) write.entry.address write.entry.bytes.now treatment k) sheet.old sheet.new }
 {
     let count = part.pages();
     let first = k * count;
-    if let Pages::Erased = pages {
+    if let Treatment::Erased = treatment {
         sheet.put_erase(Kind::SectorErase, first * PAGE_BYTES);
     }
-    put_pages(part, write, pages, first, count, sheet);
+    put_pages(part, write, treatment, first, count, sheet);
 }
 
 // The sectors by their marks.
 fn put_sectors<P: Part>(
     part: &mut P,
     write: Write<'_>,
-    marks: &[Pages; MOST_SECTORS],
+    marks: &[Treatment; MOST_SECTORS],
     sheet: &mut Sheet<'_>,
 )
     requires { Fitting (P.Part.meaning part.old) write.address write.bytes.now }
@@ -108,8 +114,8 @@ fn put_sectors<P: Part>(
     ensures sent { Sent (sectors_list (P.Part.meaning part.old) write.entry.address write.entry.bytes.now marks.now) sheet.old sheet.new }
 {
     let sectors = part.sectors();
-    for (k, pages) in marks[..sectors].iter().enumerate() {
-        put_sector(part, write, *pages, k, sheet);
+    for (k, treatment) in marks[..sectors].iter().enumerate() {
+        put_sector(part, write, *treatment, k, sheet);
     }
 }
 
@@ -121,7 +127,7 @@ fn put_bulk<P: Part>(part: &mut P, write: Write<'_>, sheet: &mut Sheet<'_>)
 {
     let count = part.sectors() * part.pages();
     sheet.put_erase(Kind::BulkErase, 0);
-    put_pages(part, write, Pages::Erased, 0, count, sheet);
+    put_pages(part, write, Treatment::Erased, 0, count, sheet);
 }
 
 // A choice.

@@ -40,7 +40,7 @@ pub lowest_first : (k a : ℕ) → k ≤ 8 → drop (8 - k) (bytes_high_first 8 
 lowest_first k a h = lowest_bytes (8 - k) k 8 a (omega arith) ∙ high_first_is k a
 
 -- no instruction has a longer address
-listed_most : (o : Operation) → (listed o).address ≤ 3
+listed_most : (o : Operation) → (listed o).address_bytes ≤ 3
 unfolding table listed
 listed_most WriteEnable = lit≤ tt
 listed_most WriteDisable = lit≤ tt
@@ -54,8 +54,8 @@ listed_most Preset = lit≤ tt
 listed_most SectorErase = lit≤ tt
 listed_most BulkErase = lit≤ tt
 
-pub address_most : (o : Operation) (i : Instruction) → i ≡ listed o → i.address ≤ 3
-address_most o i e = subst (λ (x : Instruction). x.address ≤ 3) (sym e) (listed_most o)
+pub address_most : (o : Operation) (i : Instruction) → i ≡ listed o → i.address_bytes ≤ 3
+address_most o i e = subst (λ (x : Instruction). x.address_bytes ≤ 3) (sym e) (listed_most o)
 
 -- a part written after a front
 after_front : (p q ys : List ℕ) (a k : ℕ) → length p ≡ a → put_mid a k (p ++ q) ys ≡ (p ++ ys) ++ drop k q
@@ -77,20 +77,20 @@ four_parts (x ∷ t) ys zs ws code a b k l m n s ea eb ek el em en =
         let e : n ≡ suc (k + l + m) = omega arith in
         drop-drop m l (drop k t) ∙ drop-drop (l + m) k t ∙ ap (λ i. drop i t) (omega arith) ∙ sym (ap (λ i. drop i (x ∷ t)) e)
 
-pub length-headed : (i : Instruction) (a : ℕ) (sent : List ℕ) → length (headed i a sent) ≡ 1 + i.address + i.dummy + length sent
+pub length-headed : (i : Instruction) (a : ℕ) (sent : List ℕ) → length (headed i a sent) ≡ 1 + i.address_bytes + i.dummy_bytes + length sent
 length-headed i a sent =
-    let h = length-high_first i.address a in
-    let r : length (replicate {A = ℕ} i.dummy 0) ≡ i.dummy = length-replicate i.dummy 0 in
-    let e = length-append (replicate i.dummy 0) sent in
-    let f = length-append (high_first i.address a) (replicate i.dummy 0 ++ sent) in omega arith
+    let h = length-high_first i.address_bytes a in
+    let r : length (replicate {A = ℕ} i.dummy_bytes 0) ≡ i.dummy_bytes = length-replicate i.dummy_bytes 0 in
+    let e = length-append (replicate i.dummy_bytes 0) sent in
+    let f = length-append (high_first i.address_bytes a) (replicate i.dummy_bytes 0 ++ sent) in omega arith
 
-pub built_is : (o : Operation) (i : Instruction) (a : ℕ) (s : List ℕ) → i ≡ listed o → built o a s ≡ headed i a (carried_by i.carries s)
+pub built_is : (o : Operation) (i : Instruction) (a : ℕ) (s : List ℕ) → i ≡ listed o → built o a s ≡ headed i a (carried_by i.has_data s)
 unfolding built
-built_is o i a s e = ap (λ (x : Instruction). headed x a (carried_by x.carries s)) (sym e)
+built_is o i a s e = ap (λ (x : Instruction). headed x a (carried_by x.has_data s)) (sym e)
 
 pub length-built : (o : Operation) (i : Instruction) (a : ℕ) (s : List ℕ) → i ≡ listed o
-    → length (built o a s) ≡ 1 + i.address + i.dummy + length (carried_by i.carries s)
-length-built o i a s e = ap length (built_is o i a s e) ∙ length-headed i a (carried_by i.carries s)
+    → length (built o a s) ≡ 1 + i.address_bytes + i.dummy_bytes + length (carried_by i.has_data s)
+length-built o i a s e = ap length (built_is o i a s e) ∙ length-headed i a (carried_by i.has_data s)
 
 pub length-enable : length (built WriteEnable 0 []) ≡ 1
 unfolding table listed built
@@ -101,13 +101,13 @@ back-again : (a : ℕ) → a < 16777216 → a / 256 / 256 % 256 * 65536 + a / 25
 back-again a h = omega arith
 
 -- a frame with three bytes of address and data
-page-frame : (i : Instruction) (b2 b1 b0 wanted : ℕ) (sent : List ℕ) → i.carries ≡ true → i.address + i.dummy ≡ 3 → 0 < length sent
+page-frame : (i : Instruction) (b2 b1 b0 wanted : ℕ) (sent : List ℕ) → i.has_data ≡ true → i.address_bytes + i.dummy_bytes ≡ 3 → 0 < length sent
     → shaped_by (Some i) (length (b2 ∷ b1 ∷ b0 ∷ sent)) wanted (address_in (b2 ∷ b1 ∷ b0 ∷ sent)) (data_in (b2 ∷ b1 ∷ b0 ∷ sent))
     ≡ cond (allows i.back wanted) (meant i.operation (b2 * 65536 + b1 * 256 + b0) sent) unknown
 page-frame i b2 b1 b0 wanted sent c z h =
     let rest = b2 ∷ b1 ∷ b0 ∷ sent in
     let l : leb 3 (length rest) ≡ true = le-leb _ _ (omega arith) in
-    let f : cond i.carries (ltb (i.address + i.dummy) (length rest)) (eqb (length rest) (i.address + i.dummy)) ≡ true =
+    let f : cond i.has_data (ltb (i.address_bytes + i.dummy_bytes) (length rest)) (eqb (length rest) (i.address_bytes + i.dummy_bytes)) ≡ true =
     cond-true _ _ _ c ∙ lt-ltb _ _ (omega arith) in
     ap (λ t. cond (t && allows i.back wanted) (meant i.operation (address_in rest) (data_in rest)) unknown) f
     ∙ ap₂ (λ x y. cond (allows i.back wanted) (meant i.operation x y) unknown) (cond-true _ _ _ l) (cond-true _ _ _ l)

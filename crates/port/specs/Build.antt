@@ -23,7 +23,7 @@ place BulkErase = 10
 
 -- its row; the default stands for nothing, since every place is in the table
 unfoldable pub listed : Operation → Instruction
-listed o = slice_index_or table (place o) (record { operation = o; code = 0; address = 0; dummy = 0; carries = false; back = Nothing })
+listed o = slice_index_or table (place o) (record { operation = o; code = 0; address_bytes = 0; dummy_bytes = 0; has_data = false; back = Nothing })
 
 -- the n lowest bytes of an address, the highest first
 abbrev pub high_first : ℕ → ℕ → List ℕ
@@ -37,14 +37,14 @@ carried_by false sent = []
 
 -- the code, the address, the dummy bytes and the data
 abbrev pub headed : Instruction → ℕ → List ℕ → List ℕ
-headed i address sent = i.code ∷ (high_first i.address address ++ (replicate i.dummy 0 ++ sent))
+headed i address sent = i.code ∷ (high_first i.address_bytes address ++ (replicate i.dummy_bytes 0 ++ sent))
 
 -- the bytes of a frame
 unfoldable pub built : Operation → ℕ → List ℕ → List ℕ
-built o address sent = headed (listed o) address (carried_by (listed o).carries sent)
+built o address sent = headed (listed o) address (carried_by (listed o).has_data sent)
 
 -- THE BUILDER'S LAW. The chip machine takes a built frame apart again as meant, if its address has three bytes, there
 -- are data where the operation carries some, and no more bytes are wanted back than it may give.
 abbrev pub Understood : Type 0
-Understood = (o : Operation) (address wanted : ℕ) (sent : List ℕ) → address < 16777216 → ((listed o).carries ≡ true → 0 < length sent)
+Understood = (o : Operation) (address wanted : ℕ) (sent : List ℕ) → address < 16777216 → ((listed o).has_data ≡ true → 0 < length sent)
     → ordered (built o address sent) wanted ≡ cond (allows (listed o).back wanted) (meant o address sent) unknown

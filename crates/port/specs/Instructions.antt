@@ -8,7 +8,7 @@ use Rattle.port.specs.declared.instruction.Instruction.{Instruction}
 
 -- operation, code, bytes of address, dummy bytes, whether data follow, bytes back
 abbrev row : Operation → ℕ → ℕ → ℕ → Bool → Back → Instruction
-row o c a d x b = record { operation = o; code = c; address = a; dummy = d; carries = x; back = b }
+row o c a d x b = record { operation = o; code = c; address_bytes = a; dummy_bytes = d; has_data = x; back = b }
 
 unfoldable pub table : List Instruction
 table =
@@ -38,4 +38,4 @@ allows Any wanted = true
 -- a frame with so many bytes after its code has the instruction's shape
 abbrev pub fits : Instruction → ℕ → ℕ → Bool
 fits i after wanted =
-    cond i.carries (nat_lt (i.address + i.dummy) after) (after == i.address + i.dummy) && allows i.back wanted
+    cond i.has_data (nat_lt (i.address_bytes + i.dummy_bytes) after) (after == i.address_bytes + i.dummy_bytes) && allows i.back wanted

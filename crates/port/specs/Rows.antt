@@ -3,18 +3,18 @@ use Rattle.std.specs.Prelude.{ℕ, [], ◌∷◌}
 use Rattle.memory.specs.Row.{Row, rowed}
 use Rattle.port.specs.declared.fault.PortFault.{PortFault}
 use Rattle.port.specs.declared.fault.PortFault.TheVariants.{TooLong}
-use Rattle.port.specs.declared.fault.Making.{Making}
-use Rattle.port.specs.declared.fault.Making.TheVariants.{Geometry, Length, Status, Busy}
+use Rattle.port.specs.declared.fault.ChipMaking.{ChipMaking}
+use Rattle.port.specs.declared.fault.ChipMaking.TheVariants.{Geometry, Length, Status, Busy}
 
 abbrev pub row : PortFault → Row
 row (TooLong longest) = rowed 3 10 (longest ∷ [])
 
 -- which of the four is at fault
-abbrev pub which : Making → ℕ
+abbrev pub which : ChipMaking → ℕ
 which Geometry = 1
 which Length = 2
 which Status = 3
 which Busy = 4
 
-abbrev pub making_row : Making → Row
+abbrev pub making_row : ChipMaking → Row
 making_row m = rowed 3 13 (which m ∷ [])

@@ -39,11 +39,11 @@ fn write_address(address: usize, into: &mut [u8])
 
 // The code, the address, the dummy bytes and the data, at the buffer's start.
 fn lay_out(row: Instruction, address: usize, data: &[u8], into: &mut [u8])
-    requires address { row.address ≤ 8 }
-    requires room { 1 + row.address + row.dummy + length «data».now ≤ length into.old }
-    ensures { into.new ≡ headed row address «data».now ++ drop (1 + row.address + row.dummy + length «data».now) into.old }
+    requires address { row.address_bytes ≤ 8 }
+    requires room { 1 + row.address_bytes + row.dummy_bytes + length «data».now ≤ length into.old }
+    ensures { into.new ≡ headed row address «data».now ++ drop (1 + row.address_bytes + row.dummy_bytes + length «data».now) into.old }
 {
-    let dummy = 1 + row.address as usize;
+    let dummy = 1 + row.address_bytes as usize;
     let head = row.head();
     into[0] = row.code;
     write_address(address, &mut into[1..dummy]);
@@ -52,10 +52,10 @@ fn lay_out(row: Instruction, address: usize, data: &[u8], into: &mut [u8])
 }
 
 // The data that follow, if any may.
-fn carried<'a>(carries: bool, data: &'a [u8]) -> &'a [u8]
-    ensures { result.now ≡ carried_by carries «data».now }
+fn carried<'a>(has_data: bool, data: &'a [u8]) -> &'a [u8]
+    ensures { result.now ≡ carried_by has_data «data».now }
 {
-    if carries { data } else { &[] }
+    if has_data { data } else { &[] }
 }
 
 // Writes a frame into the buffer, and says how long it is. One that has no room is refused, and the buffer stays.
@@ -71,7 +71,7 @@ pub fn build(
 {
     let row = Instruction::of(operation);
     let head = row.head();
-    let sent = carried(row.carries, data);
+    let sent = carried(row.has_data, data);
     check_length(into.len(), head, sent.len())?;
     lay_out(row, address, sent, into);
     Ok(head + sent.len())

@@ -14,30 +14,41 @@ fn address_of(a2: u8, a1: u8, a0: u8) -> usize
 }
 
 // What an instruction asks at an address, with data.
-fn mean<'a>(operation: Operation, address: usize, data: &'a [u8]) -> Order<'a>
+fn order_of<'a>(operation: Operation, address: usize, data: &'a [u8]) -> Order<'a>
     ensures { said result ≡ meant operation address «data».now }
 {
+    let cycle = |kind| Order::Cycle {
+        kind,
+        address,
+        data,
+    };
     match operation {
         Operation::WriteEnable => Order::Enable,
         Operation::WriteDisable => Order::Disable,
         Operation::ReadStatus => Order::Status,
         Operation::Identify => Order::Identify,
         Operation::Read | Operation::FastRead => Order::Read(address),
-        Operation::Program => Order::Cycle(Kind::Program, address, data),
-        Operation::Alter => Order::Cycle(Kind::Alter, address, data),
-        Operation::Preset => Order::Cycle(Kind::Preset, address, data),
-        Operation::SectorErase => Order::Cycle(Kind::SectorErase, address, data),
-        Operation::BulkErase => Order::Cycle(Kind::BulkErase, address, data),
+        Operation::Program => cycle(Kind::Program),
+        Operation::Alter => cycle(Kind::Alter),
+        Operation::Preset => cycle(Kind::Preset),
+        Operation::SectorErase => cycle(Kind::SectorErase),
+        Operation::BulkErase => cycle(Kind::BulkErase),
     }
 }
 
 // What a frame of this code asks, if its shape is right: so many bytes after the code, so many wanted back.
-fn shape<'a>(code: u8, after: usize, wanted: usize, address: usize, data: &'a [u8]) -> Order<'a>
+fn order_by_code<'a>(
+    code: u8,
+    after: usize,
+    wanted: usize,
+    address: usize,
+    data: &'a [u8],
+) -> Order<'a>
     ensures { said result ≡ shaped_by (lookup table code) after wanted address «data».now }
 {
     match Instruction::find(code) {
         Some(instruction) if instruction.fits(after, wanted) => {
-            mean(instruction.operation, address, data)
+            order_of(instruction.operation, address, data)
         }
         _ => Order::Unknown,
     }
@@ -49,14 +60,14 @@ pub fn decode<'a>(sent: &'a [u8], wanted: usize) -> Order<'a>
 {
     match sent {
         [] => Order::Unknown,
-        [code, a2, a1, a0, data @ ..] => shape(
+        [code, a2, a1, a0, data @ ..] => order_by_code(
             *code,
             sent.len() - 1,
             wanted,
             address_of(*a2, *a1, *a0),
             data,
         ),
-        [code, ..] => shape(*code, sent.len() - 1, wanted, 0, &[]),
+        [code, ..] => order_by_code(*code, sent.len() - 1, wanted, 0, &[]),
     }
 }
 
@@ -72,8 +83,11 @@ pub fn hear<'a>(busy: usize, size: usize, order: Order<'a>) -> Order<'a>
         };
     }
     match order {
-        Order::Cycle(Kind::BulkErase, _, _) => order,
-        Order::Read(a) | Order::Cycle(_, a, _) if a >= size => Order::Unknown,
+        Order::Cycle {
+            kind: Kind::BulkErase,
+            ..
+        } => order,
+        Order::Read(address) | Order::Cycle { address, .. } if address >= size => Order::Unknown,
         _ => order,
     }
 }

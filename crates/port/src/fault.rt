@@ -37,7 +37,7 @@ impl Reported for PortFault {
 
 // Why a bench chip cannot be made.
 #[derive(Clone, Copy, PartialEq, Eq, Debug)]
-pub enum Making {
+pub enum ChipMaking {
     // no chip has this capacity byte
     Geometry = 1,
     // the image is not as long as the chip
@@ -49,18 +49,18 @@ pub enum Making {
 }
 
 // An image that cannot be made cannot be a chip's.
-impl From<ImageFault> for Making {
+impl From<ImageFault> for ChipMaking {
     ghost from_gives = { λ old new. new ≡ imaging old };
 
-    fn from(fault: ImageFault) -> Making {
+    fn from(fault: ImageFault) -> ChipMaking {
         match fault {
-            ImageFault::Geometry => Making::Geometry,
-            ImageFault::Length => Making::Length,
+            ImageFault::Geometry => ChipMaking::Geometry,
+            ImageFault::Length => ChipMaking::Length,
         }
     }
 }
 
-impl Reported for Making {
+impl Reported for ChipMaking {
     ghost row = { making_row };
 
     fn report(self) -> Report {

@@ -63,11 +63,11 @@ pub struct Instruction {
     pub operation: Operation,
     pub code: u8,
     // bytes of address after the code, the highest first
-    pub address: u8,
+    pub address_bytes: u8,
     // bytes without meaning after the address
-    pub dummy: u8,
+    pub dummy_bytes: u8,
     // whether one or more bytes of data follow
-    pub carries: bool,
+    pub has_data: bool,
     pub back: Back,
 }
 
@@ -75,89 +75,89 @@ pub(crate) const TABLE: [Instruction; 11] = [
     Instruction {
         operation: Operation::WriteEnable,
         code: 0x06,
-        address: 0,
-        dummy: 0,
-        carries: false,
+        address_bytes: 0,
+        dummy_bytes: 0,
+        has_data: false,
         back: Back::Nothing,
     },
     Instruction {
         operation: Operation::WriteDisable,
         code: 0x04,
-        address: 0,
-        dummy: 0,
-        carries: false,
+        address_bytes: 0,
+        dummy_bytes: 0,
+        has_data: false,
         back: Back::Nothing,
     },
     Instruction {
         operation: Operation::ReadStatus,
         code: 0x05,
-        address: 0,
-        dummy: 0,
-        carries: false,
+        address_bytes: 0,
+        dummy_bytes: 0,
+        has_data: false,
         back: Back::Any,
     },
     Instruction {
         operation: Operation::Identify,
         code: 0x9F,
-        address: 0,
-        dummy: 0,
-        carries: false,
+        address_bytes: 0,
+        dummy_bytes: 0,
+        has_data: false,
         back: Back::Identification,
     },
     Instruction {
         operation: Operation::Read,
         code: 0x03,
-        address: 3,
-        dummy: 0,
-        carries: false,
+        address_bytes: 3,
+        dummy_bytes: 0,
+        has_data: false,
         back: Back::Any,
     },
     Instruction {
         operation: Operation::FastRead,
         code: 0x0B,
-        address: 3,
-        dummy: 1,
-        carries: false,
+        address_bytes: 3,
+        dummy_bytes: 1,
+        has_data: false,
         back: Back::Any,
     },
     Instruction {
         operation: Operation::Program,
         code: 0x02,
-        address: 3,
-        dummy: 0,
-        carries: true,
+        address_bytes: 3,
+        dummy_bytes: 0,
+        has_data: true,
         back: Back::Nothing,
     },
     Instruction {
         operation: Operation::Alter,
         code: 0x22,
-        address: 3,
-        dummy: 0,
-        carries: true,
+        address_bytes: 3,
+        dummy_bytes: 0,
+        has_data: true,
         back: Back::Nothing,
     },
     Instruction {
         operation: Operation::Preset,
         code: 0xD1,
-        address: 3,
-        dummy: 0,
-        carries: true,
+        address_bytes: 3,
+        dummy_bytes: 0,
+        has_data: true,
         back: Back::Nothing,
     },
     Instruction {
         operation: Operation::SectorErase,
         code: 0xD8,
-        address: 3,
-        dummy: 0,
-        carries: false,
+        address_bytes: 3,
+        dummy_bytes: 0,
+        has_data: false,
         back: Back::Nothing,
     },
     Instruction {
         operation: Operation::BulkErase,
         code: 0xC7,
-        address: 0,
-        dummy: 0,
-        carries: false,
+        address_bytes: 0,
+        dummy_bytes: 0,
+        has_data: false,
         back: Back::Nothing,
     },
 ];
@@ -175,9 +175,9 @@ impl Instruction {
 
     // How many bytes stand before the data: the code, the address and the dummy bytes.
     pub fn head(&self) -> usize
-        ensures { result ≡ 1 + self.now.address + self.now.dummy }
+        ensures { result ≡ 1 + self.now.address_bytes + self.now.dummy_bytes }
     {
-        1 + self.address as usize + self.dummy as usize
+        1 + self.address_bytes as usize + self.dummy_bytes as usize
     }
 
     // If a frame has the instruction's shape: so many bytes after its code, and so many wanted back.
@@ -186,7 +186,7 @@ impl Instruction {
     {
         // the code is none of the bytes after it
         let head = self.head() - 1;
-        let is_long = if self.carries {
+        let is_long = if self.has_data {
             after > head
         } else {
             after == head

@@ -6,7 +6,7 @@ ghost use Rattle.port.specs.Machine.{Within, act, identify, reply, said, shown, 
 ghost use Rattle.port.specs.Bench.{chip_of, fresh, unmade};
 
 use crate::bench::BenchChip;
-use crate::fault::Making;
+use crate::fault::ChipMaking;
 use crate::order::Order;
 use memory::bytes::fill;
 use memory::image::{Image, Unmade};
@@ -27,27 +27,27 @@ impl BenchChip {
         image: Vec<u8>,
         status: u8,
         busy_number: usize,
-    ) -> Result<BenchChip, Unmade<Making>>
+    ) -> Result<BenchChip, Unmade<ChipMaking>>
         ensures { MatchResult result
             (λ b. (unmade capacity (vec_len image) status busy_number ≡ None) × (chip_of b ≡ fresh capacity image.items status) × (b.image.bytes ≡ image) × (b.busy_number ≡ busy_number))
             (λ e. (unmade capacity (vec_len image) status busy_number ≡ Some e.fault) × (e.bytes ≡ image)) }
     {
         let Some(model) = Model::find(capacity) else {
             return Err(Unmade {
-                fault: Making::Geometry,
+                fault: ChipMaking::Geometry,
                 bytes: image,
             });
         };
         let image = Image::with_geometry(model.geometry, image).map_err(|unmade| unmade.convert())?;
         let Some(status) = Status::new(status) else {
             return Err(Unmade {
-                fault: Making::Status,
+                fault: ChipMaking::Status,
                 bytes: image.into_bytes(),
             });
         };
         if busy_number > MOST_BUSY {
             return Err(Unmade {
-                fault: Making::Busy,
+                fault: ChipMaking::Busy,
                 bytes: image.into_bytes(),
             });
         }
@@ -62,7 +62,7 @@ impl BenchChip {
     }
 
     // The bytes as they stand.
-    pub fn into_image(self) -> Vec<u8>
+    pub fn into_bytes(self) -> Vec<u8>
         ensures { result ≡ self.image.bytes }
     {
         self.image.into_bytes()
@@ -102,7 +102,7 @@ impl BenchChip {
             Order::Status => fill(back, self.status_byte()),
             Order::Identify => self.identify(back),
             Order::Read(address) => self.image.read(address, back),
-            Order::Enable | Order::Disable | Order::Cycle(_, _, _) | Order::Unknown => fill(
+            Order::Enable | Order::Disable | Order::Cycle { .. } | Order::Unknown => fill(
                 back, 0xFF,
             ),
         }
@@ -127,9 +127,13 @@ impl BenchChip {
             Order::Enable => self.latch = true,
             Order::Disable => self.latch = false,
             Order::Status => self.busy = self.busy.saturating_sub(1),
-            Order::Cycle(kind, address, sent) => {
+            Order::Cycle {
+                kind,
+                address,
+                data,
+            } => {
                 if self.takes(kind, address) {
-                    self.image.carry(kind, address, sent);
+                    self.image.carry(kind, address, data);
                     self.latch = false;
                     self.busy = self.busy_number;
                 }

@@ -8,7 +8,11 @@ pub enum Order<'a> {
     Status,
     Identify,
     Read(usize),
-    Cycle(Kind, usize, &'a [u8]),
+    Cycle {
+        kind: Kind,
+        address: usize,
+        data: &'a [u8],
+    },
     // nothing that the chip knows: the frame is ignored
     Unknown,
 }

@@ -7,7 +7,7 @@ use crate::bytes::MOST;
 use crate::command::{Command, Usage};
 use crate::read::MOST_TEXT;
 use crate::reading::{MOST_ALL, MOST_STEPS};
-use port::fault::Making;
+use port::fault::ChipMaking;
 use std::alloc::{AllocError, AllocFailed};
 use std::fmt;
 use thiserror::Error;
@@ -15,15 +15,15 @@ use trials::chip::ChipFault;
 
 // Why the chip of a script cannot be made, in a script's words: another crate's enum can be given no `Display` here.
 #[derive(Clone, Copy, PartialEq, Eq, Debug)]
-struct Reason(Making);
+struct Reason(ChipMaking);
 
 impl fmt::Display for Reason {
     fn fmt<W: fmt::Write>(&self, f: &mut fmt::Formatter<W>) -> fmt::Result {
         f.write_str(match self.0 {
-            Making::Geometry => "no chip has this capacity byte",
-            Making::Length => "the image is not as long as the chip",
-            Making::Status => "a status byte has bit 7 set, and bits 1 and 0 clear",
-            Making::Busy => "a busy number is at most 4096",
+            ChipMaking::Geometry => "no chip has this capacity byte",
+            ChipMaking::Length => "the image is not as long as the chip",
+            ChipMaking::Status => "a status byte has bit 7 set, and bits 1 and 0 clear",
+            ChipMaking::Busy => "a busy number is at most 4096",
         })
     }
 }
@@ -53,7 +53,7 @@ pub enum Fault {
     ChipAgain,
     // the chip cannot be made
     #[error("{}", Reason(*.0))]
-    Making(Making),
+    Making(ChipMaking),
     #[error("image and room stand before the first call")]
     Late,
     // the bytes of an image end past the chip's end

@@ -22,7 +22,7 @@ impl Chip {
             capacity,
             status,
             busy,
-            image: made.into_image(),
+            image: made.into_bytes(),
         })
     }
 

@@ -63,7 +63,7 @@ impl Side for PlainImage {
     }
 
     fn into_bytes(self) -> Vec<u8> {
-        self.into_image()
+        PlainImage::into_bytes(self)
     }
 }
 
@@ -79,7 +79,7 @@ impl Side for SlowImage {
     }
 
     fn into_bytes(self) -> Vec<u8> {
-        self.plain.into_image()
+        self.plain.into_bytes()
     }
 }
 
@@ -112,6 +112,6 @@ impl Side for BenchChip {
     }
 
     fn into_bytes(self) -> Vec<u8> {
-        self.into_image()
+        BenchChip::into_bytes(self)
     }
 }

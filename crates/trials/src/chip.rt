@@ -8,7 +8,7 @@ ghost use Rattle.trials.specs.declared.chip.ChipFault.TheVariants as fault;
 use memory::image::Unmade;
 use memory::model::Model;
 use port::bench::BenchChip;
-use port::fault::Making;
+use port::fault::ChipMaking;
 use std::alloc::{AllocError, Global};
 use thiserror::Error;
 
@@ -16,7 +16,7 @@ use thiserror::Error;
 #[derive(Clone, Copy, PartialEq, Eq, Debug, Error)]
 pub enum ChipFault {
     #[error("the chip cannot be made: {0:?}")]
-    Making(Making),
+    Making(ChipMaking),
     #[error("no memory is left")]
     NoMemory,
 }
@@ -29,10 +29,10 @@ impl From<AllocError> for ChipFault {
     }
 }
 
-impl From<Unmade<Making>> for ChipFault {
+impl From<Unmade<ChipMaking>> for ChipFault {
     ghost from_gives = { λ old new. new ≡ fault.Making old.fault };
 
-    fn from(unmade: Unmade<Making>) -> ChipFault {
+    fn from(unmade: Unmade<ChipMaking>) -> ChipFault {
         ChipFault::Making(unmade.fault)
     }
 }
@@ -51,7 +51,7 @@ pub fn blank_chip(
           | fault.NoMemory ↦ Unit {0}
         ]) }
 {
-    let model = Model::find(capacity).ok_or(ChipFault::Making(Making::Geometry))?;
+    let model = Model::find(capacity).ok_or(ChipFault::Making(ChipMaking::Geometry))?;
     let blank = vec![in heap; 0xFF; model.geometry.size()]?;
     Ok(BenchChip::new(capacity, blank, status, busy)?)
 }

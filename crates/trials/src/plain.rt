@@ -3,19 +3,19 @@ ghost use Rattle.std.specs.Prelude.{◌≡◌, Some, None, MatchResult, vec_len}
 ghost use Rattle.part.specs.Plain.{fresh, plainly, unmade};
 
 use memory::image::Unmade;
-use part::fault::Making;
+use part::fault::PlainMaking;
 use part::plain::PlainImage;
 use thiserror::Error;
 
 // Why the plain image cannot be made.
 #[derive(Clone, Copy, PartialEq, Eq, Debug, Error)]
 #[error("the plain image cannot be made: {0:?}")]
-pub struct PlainFault(pub Making);
+pub struct PlainFault(pub PlainMaking);
 
-impl From<Unmade<Making>> for PlainFault {
+impl From<Unmade<PlainMaking>> for PlainFault {
     ghost from_gives = { λ old new. new.0 ≡ old.fault };
 
-    fn from(unmade: Unmade<Making>) -> PlainFault {
+    fn from(unmade: Unmade<PlainMaking>) -> PlainFault {
         PlainFault(unmade.fault)
     }
 }

@@ -3,7 +3,7 @@ use Rattle.memory.proofs.Blocks.{below_end}
 use Rattle.part.specs.Meaning.{Meaning}
 use Rattle.least.specs.Cost.{lesser}
 use Rattle.least.specs.Fewest.{fewest}
-use Rattle.planner.specs.declared.chosen.Pages.TheVariants.{Kept, Erased}
+use Rattle.planner.specs.declared.chosen.Treatment.TheVariants.{Kept, Erased}
 use Rattle.least.specs.Sectors.{sector_cost}
 use Rattle.planner.specs.Survey.{erased_from, erases, kept, kept_from, on_from, preset}
 use Rattle.planner.proofs.Askings.{on_and_off}
@@ -46,7 +46,7 @@ returns-in-Some g c =
       bound =
           let b = erase.bound p touched.bound.1 in
           ((omega (arith, b, low, e), omega (arith, b, low, e)), (omega (arith, touched.bound, low, e), omega (arith, touched.bound, low, e)));
-      pages = ap (λ (x : Bool × (ℕ × ℕ)). cond x.0 Erased Kept) both;
+      treatment = ap (λ (x : Bool × (ℕ × ℕ)). cond x.0 Erased Kept) both;
       value = ap (λ (x : Bool × (ℕ × ℕ)). x.1) both;
       touched = touched.presets ∙ ap (λ n. on_from m a b (k * n) n) e;
     }
@@ -71,7 +71,7 @@ returns-in-None g c =
     record {
       looked = looked_join g.P.Part g.met.P.Part.joins _ _ _ _ _ _ touched.looked erase.looked (omega (arith, on_and_off a b (k * p) p, e));
       bound = ((omega (arith, touched.bound, low, e), omega (arith, touched.bound, low, e)), (omega (arith, touched.bound, low, e), omega (arith, touched.bound, low, e)));
-      pages = ap (λ (x : Bool × (ℕ × ℕ)). cond x.0 Erased Kept) both;
+      treatment = ap (λ (x : Bool × (ℕ × ℕ)). cond x.0 Erased Kept) both;
       value = ap (λ (x : Bool × (ℕ × ℕ)). x.1) both;
       touched = touched.presets ∙ ap (λ n. on_from m a b (k * n) n) e;
     }

@@ -1,18 +1,18 @@
 use Rattle.std.proofs.Common.{◌≡◌, ℕ, ◌+◌, ◌<◌, List, length, get_or, set, sym, ap, ◌∙◌, ap₂, ⊎_elim, arith, get_or-set_other, get_or-set_same, add-mul}
 use Rattle.std.proofs.lemmas.Bool.{cases_eq}
 use Rattle.part.specs.Meaning.{Meaning}
-use Rattle.planner.specs.declared.chosen.Pages.{Pages}
-use Rattle.planner.specs.declared.chosen.Pages.TheVariants.{Kept}
+use Rattle.planner.specs.declared.chosen.Treatment.{Treatment}
+use Rattle.planner.specs.declared.chosen.Treatment.TheVariants.{Kept}
 use Rattle.least.specs.Fewest.{fewest}
 use Rattle.least.specs.Sectors.{over_sector, sector_cost}
-use Rattle.planner.specs.Survey.{kept, preset, preset_on, sector_pages}
+use Rattle.planner.specs.Survey.{kept, preset, preset_on, sector_treatment}
 use Rattle.planner.proofs.Lookings.{looked_join}
 use Rattle.planner.proofs.Totals.{parts, sum_more}
 use Rattle.planner.proofs.choice.sector_costs.Goals as goal
 
 -- one more mark
 marked :
-    (marks : List Pages) (f : ℕ → Pages) (k : ℕ) (v : Pages) → k < length marks → v ≡ f k
+    (marks : List Treatment) (f : ℕ → Treatment) (k : ℕ) (v : Treatment) → k < length marks → v ≡ f k
     → ((i : ℕ) → i < k → get_or marks i Kept ≡ f i) → (i : ℕ) → i < k + 1 → get_or (set marks k v) i Kept ≡ f i
 marked marks f k v h e before i l =
     ⊎_elim (λ t. ap (λ x. get_or (set marks k v) x Kept) t ∙ (get_or-set_same marks k v Kept h ∙ (e ∙ ap f (sym t))))
@@ -36,8 +36,8 @@ loop-k-preserved g c =
           ∙ ap₂ (λ x y. fewest.plus x y) inv.3
           (sector.value ∙ ap (λ x. sector_cost fewest x.shape (kept x a b) (preset x a b) k) inv.0.same)
           ∙ sym (sum_more fewest k (sector_cost fewest m.shape (kept m a b) (preset m a b))),
-      marked c.loop-k.marks (sector_pages m a b) k c.sector_cost-sector.result.pages (omega arith)
-          (sector.pages ∙ ap (λ x. sector_pages x a b k) inv.0.same) inv.4,
+      marked c.loop-k.marks (sector_treatment m a b) k c.sector_cost-sector.result.treatment (omega arith)
+          (sector.treatment ∙ ap (λ x. sector_treatment x a b k) inv.0.same) inv.4,
       c.add_assign.ensures.after.1
           ∙ ap₂ (λ x y. fewest.plus x y) inv.5
           (sector.touched ∙ ap (λ x. over_sector fewest x.shape (preset_on x a b) k) inv.0.same)

@@ -2,9 +2,9 @@ use Rattle.std.proofs.Common.{◌≡◌, ℕ, ◌*◌, ◌<◌, get_or}
 use Rattle.least.specs.Cost.{sum_to}
 use Rattle.least.specs.Fewest.{fewest}
 use Rattle.least.specs.Sectors.{over_sector, sector_cost}
-use Rattle.planner.specs.declared.chosen.Pages.TheVariants.{Kept}
+use Rattle.planner.specs.declared.chosen.Treatment.TheVariants.{Kept}
 use Rattle.planner.specs.Looking.{LookedBy}
-use Rattle.planner.specs.Survey.{UpTo, kept, preset, preset_on, sector_pages}
+use Rattle.planner.specs.Survey.{UpTo, kept, preset, preset_on, sector_treatment}
 use Rattle.planner.proofs.choice.sector_costs.Given as goal
 
 abbrev pub invariant-loop-k : goal.invariant-loop-k
@@ -15,5 +15,5 @@ invariant-loop-k g l =
     LookedBy g.P.Part (64 * (l.k * m.shape.pages)) l.initial.part l.part
     × UpTo (4097 * l.k) l.costs.cost × UpTo (2048 * l.k) l.costs.presets
     × (l.costs.cost ≡ sum_to fewest l.k (sector_cost fewest m.shape (kept m a b) (preset m a b)))
-    × ((i : ℕ) → i < l.k → get_or l.marks i Kept ≡ sector_pages m a b i)
+    × ((i : ℕ) → i < l.k → get_or l.marks i Kept ≡ sector_treatment m a b i)
     × (l.costs.presets ≡ sum_to fewest l.k (over_sector fewest m.shape (preset_on m a b)))

@@ -16,7 +16,7 @@ loop-q-preserved g c =
     let b = c.args.write.bytes.now in
     let q = c.loop-q.q in (
       looked_join g.P.Part g.met.P.Part.joins _ _ _ _ _ _ looked page.looked (omega arith),
-      sent_as _ _ _ _ (sym (pages_more m a b c.args.pages c.args.first q (omega arith)))
+      sent_as _ _ _ _ (sym (pages_more m a b c.args.treatment c.args.first q (omega arith)))
           (sent_join _ _ _ _ _ c.loop-q.invariant.1
-          (subst (λ (x : Meaning). Sent (page_list x a b c.args.pages q) c.loop-q.sheet c.put_page.new.sheet) looked.same page.sent)),
+          (subst (λ (x : Meaning). Sent (page_list x a b c.args.treatment q) c.loop-q.sheet c.put_page.new.sheet) looked.same page.sent)),
     )

@@ -1,6 +1,6 @@
 use Rattle.std.proofs.Common.{◌*◌, get_or}
 use Rattle.least.specs.Plan.{list_to}
-use Rattle.planner.specs.declared.chosen.Pages.TheVariants.{Kept}
+use Rattle.planner.specs.declared.chosen.Treatment.TheVariants.{Kept}
 use Rattle.planner.specs.Looking.{LookedBy}
 use Rattle.planner.specs.Sending.{Sent}
 use Rattle.planner.specs.Lists.{sector_list}

@@ -23,9 +23,9 @@ returns c =
     let f = built c.args.operation c.args.address s in
     let b = built_is c.args.operation i c.args.address s c.of-row.ensures in
     let l = length-built c.args.operation i c.args.address s c.of-row.ensures in
-    let t : c.carried-sent.result.now ≡ carried_by i.carries s = c.carried-sent.ensures in
+    let t : c.carried-sent.result.now ≡ carried_by i.has_data s = c.carried-sent.ensures in
     let n = ap length t in
-    let e : 1 + i.address + i.dummy + length c.carried-sent.result.now ≡ 0 + length f = omega arith in
+    let e : 1 + i.address_bytes + i.dummy_bytes + length c.carried-sent.result.now ≡ 0 + length f = omega arith in
     record {
       result = grind (arith, nat_tests);
       bytes = c.lay_out.ensures ∙ ap₂ (λ x y. x ++ drop y into) (ap (headed i c.args.address) t ∙ sym b) e;

@@ -7,8 +7,8 @@ use Rattle.port.proofs.build.lay_out.Goals as goal
 
 pub returns : goal.returns
 returns c =
-    let na : ℕ = c.args.row.address in
-    let nd : ℕ = c.args.row.dummy in
+    let na : ℕ = c.args.row.address_bytes in
+    let nd : ℕ = c.args.row.dummy_bytes in
     let nl : ℕ = length c.args.data.now in
     let h : ℕ = c.head-head.result in
     let e : h ≡ 1 + na + nd = c.head-head.ensures in

@@ -10,6 +10,6 @@ returns-in-len4-up c =
     let s = c.args.sent.now in
     let n : 4 ≤ length s = search rules in
     let l : 3 ≤ length (drop 1 s) = simp length-drop (omega arith) in
-    c.shape-in-len4-up.ensures
+    c.order_by_code-in-len4-up.ensures
     ∙ ap₂ (shaped_by (lookup table (get_or s 0 0)) (length s - 1) c.args.wanted) (c.address_of.ensures ∙ sym (address_long s l)) (take_rest s 4 ∙ sym (data_long s l))
     ∙ sym (ordered_is s c.args.wanted (omega arith))

@@ -10,7 +10,7 @@ use Rattle.port.specs.Machine.{after}
 use Rattle.part.specs.declared.outline.Outline.{Outline}
 use Rattle.part.specs.Meaning.{carried}
 use Rattle.part.specs.Outline.{outlined, guarding}
-use Rattle.part.specs.Verdict.{refusal, inside, fills, presets}
+use Rattle.part.specs.Verdict.{refusal, inside, takes_length, presets}
 use Rattle.part.proofs.Refusals.{Passes, all_passed, unrefused}
 use Rattle.driver.specs.Frames.{looks, enable_frame, cycle_frame}
 use Rattle.driver.specs.Driving.{Drives, Intact, seen}
@@ -21,7 +21,7 @@ use Rattle.driver.proofs.driver_part.DriverPart.cycle.Goals as goal
 
 -- the checks before the page, as the outline and as the meaning has them
 passes : (o : Outline) (kind : Kind) (a n : ℕ) → None ≡ refusal (outlined o) (guarding o) (not o.busy) true kind a n
-    → Passes (inside (outlined o) kind a) (fills (outlined o) kind n) (not o.busy) (permits (outlined o) (guarding o) kind a)
+    → Passes (inside (outlined o) kind a) (takes_length (outlined o) kind n) (not o.busy) (permits (outlined o) (guarding o) kind a)
 passes o kind a n v = all_passed (outlined o) (guarding o) (not o.busy) kind a n true (sym v)
 
 -- what the cycle leaves, once its page was found to be clean
@@ -41,9 +41,9 @@ sends o p c m d room kind a sent sound i shape status busy v others clean same e
     let f = e ∙ ap (λ x. after d.busy (after 0 x enable_frame) (cycle_frame kind a sent)) same in
     let t = sym (looked o kind a (length c.image) true (blank (page 64 (a / 64) c.image)) (chip_long o c sound i) q.inside others (clean (i.idle was-idle))) in
     record {
-      intact = cycle-intact o p c d room kind a sent sound i shape status busy was-idle q.inside q.fills q.permits t f;
-      drives = drives_cycle o p c d room kind a sent sound i shape status busy was-idle q.inside q.fills q.permits t f;
-      image = cycle-image o p c d room kind a sent sound i shape status busy was-idle q.inside q.fills q.permits t f;
+      intact = cycle-intact o p c d room kind a sent sound i shape status busy was-idle q.inside q.takes_length q.permits t f;
+      drives = drives_cycle o p c d room kind a sent sound i shape status busy was-idle q.inside q.takes_length q.permits t f;
+      image = cycle-image o p c d room kind a sent sound i shape status busy was-idle q.inside q.takes_length q.permits t f;
     }
 
 pub returns-in_err-check_cycle-clause-trace : goal.returns-in_err-check_cycle-clause-trace
@@ -60,7 +60,7 @@ returns-then-not-is_clean_for-clause-trace g c =
     let a : ℕ = c.args.address in
     let room : ℕ = g.P.Port.longest port - 4 in
     let p = passes o kind a (length c.args.data.now) (unrefused _ c.in_ok-check_cycle.ensures.value) in
-    let s = (sendable o kind a (length c.args.data.now) p.inside p.fills).0 in (
+    let s = (sendable o kind a (length c.args.data.now) p.inside p.takes_length).0 in (
       looks room kind a,
       c.is_clean_for.ensures.trace,
       drives_quiet o chip _ (looks room kind a) [] c.is_clean_for.ensures.chip (looks_carry room kind a chip s) (looks-harmless room kind a chip s) (looks_no_status room kind a s) refl refl,

@@ -11,7 +11,7 @@ returns-then-bars-clause-result g c =
     let f = c.args.self.now in
     let m : Meaning = g.P.Part.meaning f.part in
     let o = unrefused _ c.in_ok-check_form.ensures in
-    ap (λ a. Err (Protected a)) c.barred.ensures
+    ap (λ a. Err (Protected a)) c.told_address.ensures
     ∙ ap told
     (sym (formed-verdict m (g.met.P.Part.sound f.part) f.closed (clean_at m c.args.address) c.args.kind c.args.address c.args.data.now (sym c.if-bars.ensures) _ _ c.size_of.ensures c.is_busy.ensures o))
 
