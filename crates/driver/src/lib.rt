@@ -9,3 +9,4 @@ pub mod driver_part;
 pub mod fault;
 mod poll;
 mod read;
+mod report;

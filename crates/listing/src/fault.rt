@@ -1,8 +1,7 @@
-// Why a listing is refused.
+// Why a listing is refused. specs/Fault.antt gives each case its layer, number and values.
 ghost use Rattle.std.specs.Prelude.{◌≡◌, ◌+◌, ◌-◌, ◌^◌, ◌<◌};
 ghost use Rattle.listing.specs.declared.fault.ListingFault.TheVariants.{Malformed};
 
-// It is not `Reported`: a report tells values of a `usize`, and `needed` can be past them.
 #[derive(Clone, Copy, PartialEq, Eq, Debug)]
 pub enum ListingFault {
     // The line cannot go on at this column. Both count from 1, columns in bytes.

@@ -12,6 +12,7 @@ pub mod plan_fault;
 mod plan_refusal;
 mod plan_text;
 pub mod reader;
+mod report;
 pub mod rewrite;
 mod room;
 mod sheet;

@@ -1,4 +1,4 @@
-// Why a plan is not listed. It is not `Reported`, as `ListingFault` is not: `needed` can be past a `usize`.
+// Why a plan is not listed. specs/PlanFault.antt gives each case its layer, number and values.
 
 #[derive(Clone, Copy, PartialEq, Eq, Debug)]
 pub enum PlanListingFault {

@@ -10,6 +10,7 @@ mod look;
 mod overlay;
 mod page;
 pub mod plan;
+mod report;
 pub mod run;
 pub mod run_fault;
 pub mod send;
