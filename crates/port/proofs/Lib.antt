@@ -1,3 +1,4 @@
 pub mod Frames
 pub mod Lawful
 pub mod Building
+pub mod Settled
