@@ -2,3 +2,5 @@ pub mod Frames
 pub mod Lawful
 pub mod Building
 pub mod Settled
+pub mod Taken
+pub mod Answered
