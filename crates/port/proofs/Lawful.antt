@@ -13,7 +13,9 @@ use Rattle.memory.proofs.Protected.{none_protected}
 use Rattle.memory.proofs.Off.{written_off, erased_off}
 use Rattle.port.specs.Chip.{Chip, Sound, shape}
 use Rattle.port.specs.Machine.{Ask, enable, disable, status, identify, read, cycle, unknown, Frame, hears, heard, inside, polled, ordered, takes, opens, reply, answer, act, after, done}
-use Rattle.port.specs.Laws.{starts, carried_by, Within, MachineLaws}
+use Rattle.port.specs.Laws.{starts, carried_by, Within, Needs, MachineLaws}
+use Rattle.port.proofs.Taken.{latched_for, needed, taken}
+use Rattle.port.proofs.Answered.{length-reply, shows, identifies, identifies-three}
 
 pub ignored : (k w : ℕ) (c : Chip) (f : Frame) → hears c f ≡ unknown → (after k c f ≡ c) × (answer w c f ≡ replicate f.wanted 255)
 ignored k w c f e = (ap (act k c) e, ap (λ o. reply w c o f.wanted) e)
@@ -153,6 +155,20 @@ latch-act k c (cycle y) a b e = go (takes c y) e
     go false e = refl
 latch-act k c unknown a b e = refl
 
+-- and the busy count
+busy-act : (k : ℕ) (c : Chip) (o : Ask) → (o ≡ status → ⊥) → starts c o ≡ None → (act k c o).busy ≡ c.busy
+busy-act k c enable a e = refl
+busy-act k c disable a e = refl
+busy-act k c status a e = absurd (a refl)
+busy-act k c identify a e = refl
+busy-act k c (read x) a e = refl
+busy-act k c (cycle y) a e = go (takes c y) e
+  where
+    go : (t : Bool) → cond t (Some y) None ≡ None → (cond t (done k c (effect (shape c) y c.image)) c).busy ≡ c.busy
+    go true e = absurd (never y (sym e))
+    go false e = refl
+busy-act k c unknown a e = refl
+
 fixed-act : (k : ℕ) (c : Chip) (o : Ask) → ((act k c o).capacity ≡ c.capacity) × ((act k c o).status ≡ c.status)
 fixed-act k c enable = (refl, refl)
 fixed-act k c disable = (refl, refl)
@@ -166,7 +182,10 @@ fixed-act k c (cycle y) = go (takes c y)
     go false = (refl, refl)
 fixed-act k c unknown = (refl, refl)
 
-pub rolls : (image : List ℕ) (a n i : ℕ) → i < n → get_or (rolled image a n) i 0 ≡ get_or image ((a + i) % length image) 0
+pub carries : (c : Chip) → Sound c → (f : Frame) (y : Cycle) → hears c f ≡ cycle y → c.latch ≡ true → Needs c y → carried_by c f ≡ Some y
+carries c S f y e l n = ap (starts c) e ∙ cond-true _ _ _ (taken c S y l n)
+
+rolls : (image : List ℕ) (a n i : ℕ) → i < n → get_or (rolled image a n) i 0 ≡ get_or image ((a + i) % length image) 0
 rolls image a zero i h = absurd (omega arith)
 rolls image a (suc n) zero h =
     ap (λ l. get_or l 0 0) (rolled_more image a (suc n) n refl) ∙ ap (λ x. get_or image (x % length image) 0) e
@@ -193,6 +212,16 @@ lawful =
       latch-set = λ k c f e. ap (λ o. (act k c o).latch) e;
       latch_cleared = λ k c f e. ap (λ o. (act k c o).latch) e;
       latch-spent = λ k c f y e. ap (λ d. d.latch) (cycled k c f y e);
+      carries = carries;
+      needs-latch = λ c f y e. latched_for c y (started c (hears c f) y e).1;
+      needs = λ c S f y e. needed c S y (started c (hears c f) y e).1;
+      counts = λ k c f e. ap (λ o. (act k c o).busy) e;
+      sets = λ k c f y e. ap (λ d. d.busy) (cycled k c f y e);
+      waits = λ k c f. busy-act k c (hears c f);
       fixed = λ k c f. fixed-act k c (hears c f);
-      rolls = rolls;
+      filled = λ w c f. length-reply w c (hears c f) f.wanted;
+      reads = λ w c f a i e h. ap (λ o. get_or (reply w c o f.wanted) i 0) e ∙ rolls c.image a f.wanted i h;
+      shows = shows;
+      identifies = identifies;
+      identifies-three = identifies-three;
     }

@@ -1,6 +1,7 @@
 -- The bench chip as a chip, and its making.
-use Rattle.std.specs.Prelude.{ℕ, ◌%◌, false, cond, List, Some, None, Option, ◌==◌, nat_le}
+use Rattle.std.specs.Prelude.{ℕ, false, cond, List, Some, None, Option, ◌==◌, nat_le}
 use Rattle.memory.specs.Shape.{size}
+use Rattle.memory.specs.Protection.{at_rest}
 use Rattle.memory.specs.Image.{bytes_of}
 use Rattle.memory.specs.Models.{models, lookup, model_shape}
 use Rattle.memory.specs.declared.model.Model.{Model}
@@ -23,7 +24,7 @@ abbrev pub fault_of : Option Model → ℕ → ℕ → ℕ → Option ChipMaking
 fault_of None bytes status number = Some Geometry
 fault_of (Some m) bytes status number =
     cond (bytes == size (model_shape m))
-    (cond (nat_le 128 status) (cond (status % 4 == 0) (cond (nat_le number 4096) None (Some Busy)) (Some Status)) (Some Status)) (Some Length)
+    (cond (at_rest status) (cond (nat_le number 4096) None (Some Busy)) (Some Status)) (Some Length)
 
 -- why a bench chip cannot be made of a capacity byte, so many bytes, a status byte and a busy number
 abbrev pub unmade : ℕ → ℕ → ℕ → ℕ → Option ChipMaking

@@ -1,11 +1,10 @@
 -- What a reader of the data sheet would ask of the machine.
-use Rattle.std.specs.Prelude.{◌≡◌, ℕ, ◌+◌, ◌/◌, ◌%◌, ◌<◌, true, false, cond, ◌⊎◌, List, length, replicate, Some, None, Option, ◌≢◌, slice_index}
+use Rattle.std.specs.Prelude.{◌≡◌, ℕ, ◌+◌, ◌-◌, ◌/◌, ◌%◌, ◌<◌, ◌≤◌, true, false, cond, ◌⊎◌, [], ◌∷◌, length, take, replicate, Some, None, Option, ◌≢◌, ◌==◌, slice_index}
 use Rattle.memory.specs.Shape.{sector_at}
 use Rattle.memory.specs.Protection.{protects}
 use Rattle.memory.specs.Cycle.{Cycle, program, alter, preset, sector_erase, bulk_erase, effect}
-use Rattle.memory.specs.Image.{rolled}
 use Rattle.port.specs.Chip.{Chip, Sound, shape}
-use Rattle.port.specs.Machine.{Ask, enable, disable, status, identify, read, cycle, unknown, Frame, hears, takes, answer, after}
+use Rattle.port.specs.Machine.{Ask, enable, disable, status, identify, read, cycle, unknown, Frame, frame, hears, takes, answer, after}
 
 -- the cycle that an order starts, if any
 abbrev pub starts : Chip → Ask → Option Cycle
@@ -28,6 +27,25 @@ Within c (alter address sent) i = i / (shape c).bytes ≡ address / (shape c).by
 Within c (preset address sent) i = i / (shape c).bytes ≡ address / (shape c).bytes
 Within c (sector_erase address) i = sector_at (shape c) i ≡ sector_at (shape c) address
 Within c bulk_erase i = Unit {0}
+
+-- the sector of an address is not protected
+abbrev pub Open : Chip → ℕ → Type 0
+Open c address = protects c.status (shape c).sectors (sector_at (shape c) address) ≡ false
+
+-- what each cycle needs beside the latch: that its sector is not protected, for a preset also that each byte of its page is
+-- FFh, and for bulk erase that BP3, which is bit 6, and BP2 to BP0, bits 4 to 2, are all 0
+abbrev pub Needs : Chip → Cycle → Type 0
+Needs c (program address sent) = Open c address
+Needs c (alter address sent) = Open c address
+Needs c (preset address sent) =
+    Open c address × ((i : ℕ) → i < length c.image → i / (shape c).bytes ≡ address / (shape c).bytes → slice_index c.image i ≡ 255)
+Needs c (sector_erase address) = Open c address
+Needs c bulk_erase = (c.status / 64 % 2 ≡ 0) × (c.status / 4 % 8 ≡ 0)
+
+-- a byte that read status gives: bits 7 to 2 are those of the status, bit 0 (WIP) is 1 exactly while busy, and bit 1 (WEL) is
+-- the latch while idle
+abbrev pub Shows : Chip → ℕ → Type 0
+Shows c b = (b / 4 ≡ c.status / 4) × (b % 2 ≡ cond (c.busy == 0) 0 1) × (c.busy ≡ 0 → b / 2 % 2 ≡ cond c.latch 1 0)
 
 pub record MachineLaws : Type 0 where
   -- an ignored frame alters nothing and answers FFh
@@ -53,7 +71,27 @@ pub record MachineLaws : Type 0 where
   pub latch-set : (k : ℕ) (c : Chip) (f : Frame) → hears c f ≡ enable → (after k c f).latch ≡ true
   pub latch_cleared : (k : ℕ) (c : Chip) (f : Frame) → hears c f ≡ disable → (after k c f).latch ≡ false
   pub latch-spent : (k : ℕ) (c : Chip) (f : Frame) (y : Cycle) → carried_by c f ≡ Some y → (after k c f).latch ≡ false
+  -- a cycle that is heard is carried out if the latch is set and it has what it needs
+  pub carries : (c : Chip) → Sound c → (f : Frame) (y : Cycle) → hears c f ≡ cycle y → c.latch ≡ true → Needs c y → carried_by c f ≡ Some y
+  -- and only then
+  pub needs-latch : (c : Chip) (f : Frame) (y : Cycle) → carried_by c f ≡ Some y → c.latch ≡ true
+  pub needs : (c : Chip) → Sound c → (f : Frame) (y : Cycle) → carried_by c f ≡ Some y → Needs c y
+  -- the busy count: a status read lowers it by one, a cycle carried out sets it, and nothing else alters it
+  pub counts : (k : ℕ) (c : Chip) (f : Frame) → hears c f ≡ status → (after k c f).busy ≡ c.busy - 1
+  pub sets : (k : ℕ) (c : Chip) (f : Frame) (y : Cycle) → carried_by c f ≡ Some y → (after k c f).busy ≡ k
+  pub waits : (k : ℕ) (c : Chip) (f : Frame) → (hears c f ≢ status) → carried_by c f ≡ None → (after k c f).busy ≡ c.busy
   -- capacity and status bits stay
   pub fixed : (k : ℕ) (c : Chip) (f : Frame) → ((after k c f).capacity ≡ c.capacity) × ((after k c f).status ≡ c.status)
+  -- as many bytes come back as are wanted
+  pub filled : (w : ℕ) (c : Chip) (f : Frame) → length (answer w c f) ≡ f.wanted
   -- reads go up from the address and roll over to 0 after the last byte
-  pub rolls : (image : List ℕ) (address n i : ℕ) → i < n → slice_index (rolled image address n) i ≡ slice_index image ((address + i) % length image)
+  pub reads : (w : ℕ) (c : Chip) (f : Frame) (address i : ℕ) → hears c f ≡ read address → i < f.wanted
+      → slice_index (answer w c f) i ≡ slice_index c.image ((address + i) % length c.image)
+  -- read status gives the status byte, and each byte back is the same
+  pub shows : (w : ℕ) (c : Chip) → Sound c → (f : Frame) (i : ℕ) → hears c f ≡ status → i < f.wanted
+      → Shows c (slice_index (answer w c f) i) × (slice_index (answer w c f) i ≡ slice_index (answer w c f) 0)
+  -- an idle chip identifies itself by the maker's byte, the memory type and its capacity byte, as many of them as are wanted
+  pub identifies : (w : ℕ) (c : Chip) (n : ℕ) → c.busy ≡ 0 → n ≤ 3
+      → answer w c (frame (0x9F ∷ []) n) ≡ take n (0x20 ∷ 0xDA ∷ c.capacity ∷ [])
+  -- to want more than these three is another shape
+  pub identifies-three : (c : Chip) (n : ℕ) → 3 < n → hears c (frame (0x9F ∷ []) n) ≡ unknown

@@ -7,5 +7,4 @@ pub mod Bench
 pub mod Bus
 pub mod Laws
 pub mod Build
-pub mod Settled
-pub mod Sides
+pub mod Joins

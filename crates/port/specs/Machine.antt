@@ -3,6 +3,8 @@ use Rattle.std.specs.Prelude.{◌≡◌, ℕ, ◌+◌, ◌-◌, ◌*◌, ◌/◌
 use Rattle.memory.specs.Shape.{sector_at}
 use Rattle.memory.specs.Protection.{protects}
 use Rattle.memory.specs.Page.{page, blank}
+use Rattle.memory.specs.declared.kind.Kind.{Kind}
+use Rattle.memory.specs.declared.kind.Kind.TheVariants as of_kind
 use Rattle.memory.specs.Cycle as of_memory
 use Rattle.memory.specs.Cycle.{effect, cycle_of, program, alter, preset, sector_erase, bulk_erase}
 use Rattle.memory.specs.Image.{reaches, rolled}
@@ -34,6 +36,23 @@ said asks.Identify = identify
 said (asks.Read address) = read address
 said (asks.Cycle kind address sent) = cycle (cycle_of kind address sent.now)
 said asks.Unknown = unknown
+
+-- what of a cycle means nothing is left out: an erase has no data, a bulk erase has address 0
+abbrev pub Bare : Kind → ℕ → List ℕ → Type 0
+Bare of_kind.Program address sent = Unit {0}
+Bare of_kind.Alter address sent = Unit {0}
+Bare of_kind.Preset address sent = Unit {0}
+Bare of_kind.SectorErase address sent = sent ≡ []
+Bare of_kind.BulkErase address sent = (address ≡ 0) × (sent ≡ [])
+
+abbrev pub Plain : Order → Type 0
+Plain asks.Enable = Unit {0}
+Plain asks.Disable = Unit {0}
+Plain asks.Status = Unit {0}
+Plain asks.Identify = Unit {0}
+Plain (asks.Read address) = Unit {0}
+Plain (asks.Cycle kind address sent) = Bare kind address sent.now
+Plain asks.Unknown = Unit {0}
 
 -- what an instruction asks at an address, with data
 abbrev pub meant : Operation → ℕ → List ℕ → Ask

@@ -1,11 +1,11 @@
 // The bench chip is a port.
-ghost use Rattle.std.specs.Prelude.{◌≡◌, ℕ, length, is_ok, if◌then◌else◌, refl};
+ghost use Rattle.std.specs.Prelude.{◌≡◌, ℕ, [], ◌∷◌, length, is_ok, if◌then◌else◌, refl, slice_index};
 ghost use Rattle.std.proofs.Common.{◌∙◌, sym, ap, subst, lit≤};
 ghost use Rattle.port.specs.Machine.{Runs, after, answer, frame, verdict, none};
 ghost use Rattle.port.specs.Bench.{chip_of};
 ghost use Rattle.memory.specs.Shape.{size};
 ghost use Rattle.memory.specs.Models.{shape_for};
-ghost use Rattle.port.specs.Settled.{runs-++};
+ghost use Rattle.port.specs.Joins.{runs-++};
 
 use crate::bench::BenchChip;
 use crate::decode::{decode, hear};
@@ -56,7 +56,14 @@ impl Port for BenchChip {
         LONGEST
     }
 
-    fn exchange(&mut self, sent: &[u8], back: &mut [u8]) -> Result<(), PortFault> {
+    // The trait's clauses and one more, `bench`: bit 1 shows 0 while busy.
+    fn exchange(&mut self, sent: &[u8], back: &mut [u8]) -> Result<(), PortFault>
+        ensures result { result ≡ verdict 320 (frame sent.now (length back.old)) }
+        ensures back { back.new ≡ (if is_ok result then answer (slice_index back.new 0) (chip_of self.old) (frame sent.now (length back.old)) else back.old) }
+        ensures chip { chip_of self.new ≡ (if is_ok result then after (chip_of self.new).busy (chip_of self.old) (frame sent.now (length back.old)) else chip_of self.old) }
+        ensures trace { Runs self.old.busy_number (chip_of self.old) (if is_ok result then frame sent.now (length back.old) ∷ [] else []) (chip_of self.new) × (self.old.busy_number ≡ self.new.busy_number) }
+        ensures bench { back.new ≡ (if is_ok result then answer 0 (chip_of self.old) (frame sent.now (length back.old)) else back.old) }
+    {
         self.transfer(sent, back)
     }
 }

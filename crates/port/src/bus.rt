@@ -2,7 +2,7 @@
 ghost use Rattle.std.specs.Prelude.{◌≡◌, min};
 ghost use Rattle.std.proofs.Common.{◌∙◌, rules};
 ghost use Rattle.port.specs.Bus.{OnSide, by_side};
-ghost use Rattle.port.specs.Sides.{on_side};
+ghost use Rattle.port.specs.Joins.{on_side};
 
 use crate::fault::{PortFault, check_length};
 use crate::port::Port;

@@ -1,7 +1,7 @@
 // Frames taken apart.
 ghost use Rattle.std.specs.Prelude.{◌≡◌, ◌+◌, ◌*◌};
 ghost use Rattle.port.specs.Instructions.{lookup, table};
-ghost use Rattle.port.specs.Machine.{Within, heard, meant, ordered, said, shaped_by};
+ghost use Rattle.port.specs.Machine.{Plain, Within, heard, meant, ordered, said, shaped_by};
 
 use crate::instruction::{Instruction, Operation};
 use crate::order::Order;
@@ -15,7 +15,8 @@ fn address_of(a2: u8, a1: u8, a0: u8) -> usize
 
 // What an instruction asks at an address, with data.
 fn order_of<'a>(operation: Operation, address: usize, data: &'a [u8]) -> Order<'a>
-    ensures { said result ≡ meant operation address «data».now }
+    ensures said { said result ≡ meant operation address «data».now }
+    ensures plain { Plain result }
 {
     let cycle = |kind| Order::Cycle {
         kind,
@@ -31,8 +32,16 @@ fn order_of<'a>(operation: Operation, address: usize, data: &'a [u8]) -> Order<'
         Operation::Program => cycle(Kind::Program),
         Operation::Alter => cycle(Kind::Alter),
         Operation::Preset => cycle(Kind::Preset),
-        Operation::SectorErase => cycle(Kind::SectorErase),
-        Operation::BulkErase => cycle(Kind::BulkErase),
+        Operation::SectorErase => Order::Cycle {
+            kind: Kind::SectorErase,
+            address,
+            data: &[],
+        },
+        Operation::BulkErase => Order::Cycle {
+            kind: Kind::BulkErase,
+            address: 0,
+            data: &[],
+        },
     }
 }
 
@@ -44,7 +53,8 @@ fn order_by_code<'a>(
     address: usize,
     data: &'a [u8],
 ) -> Order<'a>
-    ensures { said result ≡ shaped_by (lookup table code) after wanted address «data».now }
+    ensures said { said result ≡ shaped_by (lookup table code) after wanted address «data».now }
+    ensures plain { Plain result }
 {
     match Instruction::find(code) {
         Some(instruction) if instruction.fits(after, wanted) => {
@@ -54,9 +64,11 @@ fn order_by_code<'a>(
     }
 }
 
-// What a frame asks, if so many bytes are wanted back.
+// What a frame asks, if so many bytes are wanted back. What would mean nothing is left out: data of an erase, and the address of a
+// bulk erase, which is 0.
 pub fn decode<'a>(sent: &'a [u8], wanted: usize) -> Order<'a>
-    ensures { said result ≡ ordered sent.now wanted }
+    ensures said { said result ≡ ordered sent.now wanted }
+    ensures plain { Plain result }
 {
     match sent {
         [] => Order::Unknown,
@@ -75,6 +87,7 @@ pub fn decode<'a>(sent: &'a [u8], wanted: usize) -> Order<'a>
 pub fn hear<'a>(busy: usize, size: usize, order: Order<'a>) -> Order<'a>
     ensures same { said result ≡ heard busy size (said order.entry) }
     ensures within { Within size (said result) }
+    ensures plain { Plain order.entry → Plain result }
 {
     if busy > 0 {
         return match order {

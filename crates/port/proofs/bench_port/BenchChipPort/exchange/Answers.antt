@@ -1,7 +1,7 @@
 use Rattle.std.proofs.Common.{length, is_ok, sym}
 use Rattle.port.specs.Bench.{chip_of}
 use Rattle.port.specs.Machine.{frame}
-use Rattle.port.specs.Settled.{settles_if, shows_if, runs_if}
+use Rattle.port.proofs.Settled.{settles_if, shows_if, runs_if}
 use Rattle.port.proofs.bench_port.BenchChipPort.exchange.Goals as goal
 
 pub returns-clause-back : goal.returns-clause-back

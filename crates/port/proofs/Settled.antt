@@ -1,5 +1,5 @@
 -- The two results that have no rule, as the bench chip fixes them.
-use Rattle.std.specs.Prelude.{◌≡◌, ℕ, zero, suc, ◌+◌, ◌%◌, Bool, true, false, cond, List, [], ◌∷◌, ◌++◌, replicate, bit_and, slice_index, refl}
+use Rattle.std.specs.Prelude.{◌≡◌, ℕ, zero, suc, ◌+◌, ◌%◌, Bool, true, false, cond, List, [], ◌∷◌, replicate, bit_and, slice_index, refl}
 use Rattle.std.proofs.Common.{sym, ap, subst, arith}
 use Rattle.std.proofs.lemmas.Nat.{and_mod, and_le_r}
 use Rattle.std.proofs.lemmas.Bool.Decides.{nat_tests}
@@ -23,10 +23,6 @@ settled k c unknown = refl
 
 pub settles : (k : ℕ) (c d : Chip) (o : Ask) → d ≡ act k c o → d ≡ act d.busy c o
 settles k c d o e = let P : Chip → Type 0 = λ x. x ≡ act x.busy c o in subst P (sym e) (settled k c o)
-
-pub runs-++ : {k : ℕ} {a b c : Chip} {l m : List Frame} → Runs k a l b → Runs k b m c → Runs k a (l ++ m) c
-runs-++ none q = q
-runs-++ (step p) q = step (runs-++ p q)
 
 pub runs_one : (k : ℕ) (c d : Chip) (f : Frame) → d ≡ after k c f → Runs k c (f ∷ []) d
 runs_one k c d f e = let P : Chip → Type 0 = λ x. Runs k c (f ∷ []) x in subst P (sym e) (step none)
