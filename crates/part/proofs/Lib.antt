@@ -1,2 +1,4 @@
 pub mod Accepting
 pub mod Refusals
+pub mod Guards
+pub mod Playing

@@ -1,5 +1,5 @@
 -- The protected sectors as a list, and when there is none.
-use Rattle.std.specs.Prelude.{◌≡◌, ℕ, zero, suc, ◌-◌, ◌<◌, ◌≤◌, Bool, false, not, ◌&&◌, map, length, get_or, ◌==◌, bit_and, nat_le, slice_index_or, refl}
+use Rattle.std.specs.Prelude.{◌≡◌, ℕ, zero, suc, ◌-◌, ◌<◌, ◌≤◌, Bool, false, not, ◌&&◌, map, get_or, ◌==◌, bit_and, nat_le, slice_index_or, refl}
 use Rattle.std.proofs.Common.{sym, ap, ap₂, ◌∙◌, ⊎_elim, arith}
 use Rattle.std.specs.List.{range_with_len}
 use Rattle.std.proofs.lemmas.List.FromFn.{get_or-map-range_with_len, length-map-range_with_len}
@@ -30,10 +30,6 @@ guard_at st s k = ⊎_elim (λ h. get_or-map-range_with_len (protects st s) 0 s 
     past h =
         let l = length-map-range_with_len (protects st s) 0 s in
         get_or_past (map (protects st s) (range_with_len 0 s)) k false (omega arith) ∙ sym (protects-past st s k h)
-
-pub length-guards : (st s : ℕ) → length (guards st s) ≡ s
-unfolding guards
-length-guards st s = length-map-range_with_len (protects st s) 0 s
 
 -- none below n
 pub free_same : (p q : ℕ → Bool) (n : ℕ) → ((k : ℕ) → p k ≡ q k) → free p n ≡ free q n
