@@ -10,7 +10,7 @@ use Rattle.port.specs.Chip.{Chip}
 use Rattle.part.specs.declared.outline.Outline.{Outline}
 use Rattle.part.specs.Meaning.{Meaning, Sound}
 use Rattle.part.specs.Outline.{outlined, guards}
-use Rattle.part.specs.Guards.{length-guards}
+use Rattle.part.specs.PlainLemmas.{length-guards}
 use Rattle.driver.specs.Driving.{Intact, seen}
 
 -- an image made to a length: cut, or FFh after its end

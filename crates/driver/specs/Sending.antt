@@ -20,7 +20,7 @@ use Rattle.port.proofs.Hearing.{enable-heard, enable-ordered}
 use Rattle.part.specs.declared.outline.Outline.{Outline}
 use Rattle.part.specs.Outline.{outlined, guarding}
 use Rattle.part.specs.Verdict.{inside, takes_length, presets}
-use Rattle.part.specs.Guards.{guard_at, free-guards}
+use Rattle.part.proofs.Guards.{guard_at, free-guards}
 use Rattle.driver.specs.Frames.{Sendable, largest, enable_frame, cycle_frame, looks}
 use Rattle.port.specs.Operations.{operation_of}
 use Rattle.driver.specs.Carries.{Carries, Harmless, none, step, status_reads, asks_status, carried_out}

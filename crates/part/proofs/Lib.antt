@@ -2,3 +2,5 @@ pub mod Accepting
 pub mod Events
 pub mod Refusals
 pub mod Sounds
+pub mod Guards
+pub mod Playing

@@ -3,5 +3,4 @@ pub mod Rows
 pub mod Verdict
 pub mod Outline
 pub mod Plain
-pub mod Guards
-pub mod Playing
+pub mod PlainLemmas

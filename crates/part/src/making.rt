@@ -32,7 +32,7 @@ impl PlainImage {
         bytes: Vec<u8>,
     ) -> Result<PlainImage, Unmade<PlainMaking>>
         ensures { MatchResult result
-            (λ p. (unmade sectors pages status (vec_len bytes) ≡ None) × (plainly p ≡ fresh sectors pages status bytes.items) × (p.image.bytes ≡ bytes))
+            (λ p. (unmade sectors pages status (vec_len bytes) ≡ None) × (plainly p ≡ fresh sectors pages status bytes.items) × (p.status.bits ≡ status) × (p.image.bytes ≡ bytes))
             (λ u. (unmade sectors pages status (vec_len bytes) ≡ Some u.fault) × (u.bytes ≡ bytes)) }
     {
         let image = Image::new(sectors, pages, bytes).map_err(|unmade| unmade.convert())?;

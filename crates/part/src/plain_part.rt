@@ -1,9 +1,8 @@
 // The plain image is a part.
-ghost use Rattle.std.specs.Prelude.{refl};
+ghost use Rattle.std.specs.Prelude.{◌≡◌, refl};
 ghost use Rattle.std.proofs.Common.{◌∙◌, sym};
 ghost use Rattle.part.specs.Plain.{Played, plainly, none};
-ghost use Rattle.part.specs.Guards.{length-guards};
-ghost use Rattle.part.specs.Playing.{played-++};
+ghost use Rattle.part.specs.PlainLemmas.{length-guards, played-++};
 
 use crate::fault::PartFault;
 use crate::part::Part;
@@ -14,7 +13,8 @@ use memory::kind::Kind;
 impl Part for PlainImage {
     ghost meaning = { plainly };
 
-    ghost trace = { λ a b l. Played (plainly a) l (plainly b) };
+    // The status byte is kept whole: what is protected shows only some of its bits.
+    ghost trace = { λ a b l. Played (plainly a) l (plainly b) × (a.status ≡ b.status) };
 
     ghost sound = { λ s.
         let i = s.image in
@@ -28,9 +28,9 @@ impl Part for PlainImage {
           imaged = record { whole = sym i.bytes.ok.0 ∙ i.sized; bytes = i.byte };
         } };
 
-    ghost stays = { λ s. none };
+    ghost stays = { λ s. (none, refl) };
 
-    ghost joins = { λ a b c l m p q. played-++ p q };
+    ghost joins = { λ a b c l m p q. (played-++ p.0 q.0, p.1 ∙ q.1) };
 
     fn geometry(&self) -> Geometry {
         self.image.geometry

@@ -3,7 +3,7 @@ use Rattle.std.specs.Prelude.{◌≡◌, ℕ, List, ◌++◌, length, refl}
 use Rattle.std.proofs.Common.{sym, subst, ◌∙◌}
 use Rattle.memory.specs.Shape.{size}
 use Rattle.memory.specs.Image.{shape_of}
-use Rattle.part.specs.Guards.{length-guards}
+use Rattle.part.specs.PlainLemmas.{length-guards}
 use Rattle.part.specs.Meaning.{Meaning, Event, Sound}
 use Rattle.side_by_side.specs.declared.slow.SlowImage.{SlowImage}
 use Rattle.side_by_side.specs.Slowly.{Played, none, read, cycle, poll, slowly}

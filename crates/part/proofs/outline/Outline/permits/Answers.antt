@@ -1,5 +1,5 @@
 use Rattle.std.proofs.Common.{sym, ◌∙◌}
-use Rattle.part.specs.Guards.{permits-guards}
+use Rattle.part.proofs.Guards.{permits-guards}
 use Rattle.part.specs.Outline.{outlined}
 use Rattle.part.proofs.outline.Outline.permits.Goals as goal
 

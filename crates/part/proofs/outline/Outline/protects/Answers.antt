@@ -1,5 +1,5 @@
 use Rattle.std.proofs.Common.{sym, ◌∙◌}
-use Rattle.part.specs.Guards.{guard_at}
+use Rattle.part.proofs.Guards.{guard_at}
 use Rattle.part.proofs.outline.Outline.protects.Goals as goal
 
 pub returns : goal.returns

@@ -1,4 +1,4 @@
-use Rattle.std.proofs.Common.{◌≡◌, ℕ, Bool, List, length, vec_items, sym, ap, ◌∙◌}
+use Rattle.std.proofs.Common.{◌≡◌, ℕ, Bool, List, length, vec_items, refl, sym, ap, ◌∙◌}
 use Rattle.std.proofs.lemmas.Result.{err_from_is_err_and}
 use Rattle.std.proofs.lemmas.Bool.{eqb-true}
 use Rattle.memory.specs.Shape.{Shape, size}
@@ -8,15 +8,15 @@ use Rattle.part.specs.Meaning.{Meaning, protected_at}
 use Rattle.part.specs.Outline.{guards}
 use Rattle.part.specs.Plain.{plainly, none}
 use Rattle.part.specs.Verdict.{idle, clean_at}
-use Rattle.part.specs.Playing.{played_cycle}
+use Rattle.part.proofs.Playing.{played_cycle}
 use Rattle.part.proofs.Refusals.{outlines_cycle, done_all, all_passed, accepted, carried_in, unrefused}
 use Rattle.part.proofs.plain_part.PlainImagePart.cycle.Goals as goal
 
 pub returns-in_err-check_cycle-clause-trace : goal.returns-in_err-check_cycle-clause-trace
-returns-in_err-check_cycle-clause-trace c = let p = err_from_is_err_and c.from_residual.result c.from_residual.ensures.1 in rw p.1 none
+returns-in_err-check_cycle-clause-trace c = let p = err_from_is_err_and c.from_residual.result c.from_residual.ensures.1 in rw p.1 (none, refl)
 
 pub returns-then-not-is_clean_for-clause-trace : goal.returns-then-not-is_clean_for-clause-trace
-returns-then-not-is_clean_for-clause-trace c = none
+returns-then-not-is_clean_for-clause-trace c = (none, refl)
 
 pub returns-clause-trace : goal.returns-clause-trace
 returns-clause-trace c =
@@ -30,9 +30,11 @@ returns-clause-trace c =
     let w : length (vec_items p.image.bytes) ≡ size (shape_of p.image) = sym p.image.bytes.ok.0 ∙ p.image.sized in
     let s = c.carry.ensures.shape in
     let i = c.carry.ensures.bytes ∙ carried_in m.shape m.image c.args.kind c.args.address c.args.data.now w passes.inside in
-    let k = ap (λ (x : Shape). guards p.status.bits x.sectors) s in
-    played_cycle m _ y (eqb-true _ _ passes.idle) (accepted m c.args.kind c.args.address c.args.data.now d)
-    (altered (shape_of c.carry.new.self) m.shape (bytes_of c.carry.new.self) _ (guards p.status.bits c.carry.new.self.geometry.sectors) _ s i k)
+    let k = ap (λ (x : Shape). guards p.status.bits x.sectors) s in (
+      played_cycle m _ y (eqb-true _ _ passes.idle) (accepted m c.args.kind c.args.address c.args.data.now d)
+          (altered (shape_of c.carry.new.self) m.shape (bytes_of c.carry.new.self) _ (guards p.status.bits c.carry.new.self.geometry.sectors) _ s i k),
+      refl,
+    )
   where
     altered : (s t : Shape) (i j : List ℕ) (g h : List Bool) → s ≡ t → i ≡ j → g ≡ h
         → ◌≡◌ {A = Meaning} (record { shape = s; image = i; guarded = g; due = 1 }) (record { shape = t; image = j; guarded = h; due = 1 })

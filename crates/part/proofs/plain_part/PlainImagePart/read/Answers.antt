@@ -1,4 +1,4 @@
-use Rattle.std.proofs.Common.{◌≡◌, length, vec_items, sym, ◌∙◌, arith}
+use Rattle.std.proofs.Common.{◌≡◌, length, vec_items, refl, sym, ◌∙◌, arith}
 use Rattle.std.proofs.lemmas.Result.{err_from_is_err_and}
 use Rattle.memory.specs.Shape.{size}
 use Rattle.memory.specs.Image.{shape_of}
@@ -9,7 +9,7 @@ use Rattle.part.proofs.Refusals.{outlines_read, read-inside, unrefused}
 use Rattle.part.proofs.plain_part.PlainImagePart.read.Goals as goal
 
 pub returns-in_err-check_read-clause-trace : goal.returns-in_err-check_read-clause-trace
-returns-in_err-check_read-clause-trace c = let p = err_from_is_err_and c.from_residual.result c.from_residual.ensures.1 in rw p.1 none
+returns-in_err-check_read-clause-trace c = let p = err_from_is_err_and c.from_residual.result c.from_residual.ensures.1 in rw p.1 (none, refl)
 
 pub returns-clause-bytes : goal.returns-clause-bytes
 returns-clause-bytes c = λ _.
@@ -21,4 +21,4 @@ returns-clause-bytes c = λ _.
     c.read.ensures ∙ rolled-within (vec_items p.image.bytes) c.args.address n (omega (arith, i.0))
 
 pub returns-clause-trace : goal.returns-clause-trace
-returns-clause-trace c = read none
+returns-clause-trace c = (read none, refl)

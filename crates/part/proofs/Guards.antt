@@ -31,10 +31,6 @@ guard_at st s k = ⊎_elim (λ h. get_or-map-range_with_len (protects st s) 0 s 
         let l = length-map-range_with_len (protects st s) 0 s in
         get_or_past (map (protects st s) (range_with_len 0 s)) k false (omega arith) ∙ sym (protects-past st s k h)
 
-pub length-guards : (st s : ℕ) → length (guards st s) ≡ s
-unfolding guards
-length-guards st s = length-map-range_with_len (protects st s) 0 s
-
 -- the list permits what the status byte does
 pub permits-guards : (m : Shape) (st s : ℕ) (kind : Kind) (address : ℕ) → permits m (λ k. get_or (guards st s) k false) kind address ≡ permits m (protects st s) kind address
 permits-guards m st s Program address = ap not (guard_at st s _)

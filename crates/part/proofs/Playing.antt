@@ -1,15 +1,9 @@
--- Runs of events on a plain image.
-use Rattle.std.specs.Prelude.{◌≡◌, true, List, [], ◌∷◌, ◌++◌}
+-- Runs of one event on a plain image.
+use Rattle.std.specs.Prelude.{◌≡◌, true, [], ◌∷◌}
 use Rattle.std.proofs.Common.{sym, subst}
 use Rattle.memory.specs.Cycle.{Cycle, accepts}
-use Rattle.part.specs.Meaning.{Meaning, Event, carried, polled, protected_at, waited}
-use Rattle.part.specs.Plain.{Played, none, read, cycle, poll, done}
-
-pub played-++ : {a b c : Meaning} {l m : List Event} → Played a l b → Played b m c → Played a (l ++ m) c
-played-++ none q = q
-played-++ (read p) q = read (played-++ p q)
-played-++ (cycle d t p) q = cycle d t (played-++ p q)
-played-++ (poll p) q = poll (played-++ p q)
+use Rattle.part.specs.Meaning.{Meaning, carried, polled, protected_at, waited}
+use Rattle.part.specs.Plain.{Played, none, cycle, poll, done}
 
 pub played_poll : (a b : Meaning) → b ≡ waited a → Played a (polled ∷ []) b
 played_poll a b e = let P : Meaning → Type 0 = λ x. Played a (polled ∷ []) x in subst P (sym e) (poll none)
