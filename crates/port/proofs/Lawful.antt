@@ -165,7 +165,7 @@ busy-act k c (read x) a e = refl
 busy-act k c (cycle y) a e = go (takes c y) e
   where
     go : (t : Bool) → cond t (Some y) None ≡ None → (cond t (done k c (effect (shape c) y c.image)) c).busy ≡ c.busy
-    go true e = absurd (never y (sym e))
+    go true e = absurd (none-some y (sym e))
     go false e = refl
 busy-act k c unknown a e = refl
 

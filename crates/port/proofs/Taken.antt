@@ -8,7 +8,7 @@ use Rattle.std.proofs.lemmas.Bool.Decides.{nat_tests}
 use Rattle.memory.specs.Page.{page, blank}
 use Rattle.memory.specs.Protection.{free}
 use Rattle.memory.specs.Cycle.{Cycle, program, alter, preset, sector_erase, bulk_erase}
-use Rattle.memory.proofs.Cycles.{free_at}
+use Rattle.memory.proofs.Free.{free_at}
 use Rattle.memory.proofs.Models.{page-bytes}
 use Rattle.port.specs.Chip.{Chip, Sound, shape}
 use Rattle.port.specs.Machine.{takes, opens}
