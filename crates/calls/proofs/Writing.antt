@@ -1,6 +1,6 @@
 -- A write through a fence keeps the law.
 use Rattle.std.proofs.Common.{◌≡◌, ℕ, ◌+◌, ◌<◌, List, [], ◌∷◌, ◌++◌, length, take, Err, Result, sym, refl, ap, ◌∙◌, subst, arith, length-append, length-take}
-use Rattle.std.proofs.lemmas.List.{length-map}
+use Rattle.std.proofs.lemmas.List.{length-map, map-append}
 use Rattle.std.proofs.lemmas.Bool.{both_ways}
 use Rattle.memory.specs.Cycle.{Cycle, Goes}
 use Rattle.part.specs.declared.part.Part.{Ghosts}
@@ -20,7 +20,7 @@ use Rattle.writing.proofs.Carrying.{did_over}
 use Rattle.writing.specs.declared.fault.WriteFault.{WriteFault}
 use Rattle.writing.specs.declared.fault.WriteFault.TheVariants.{Limit, Outside, StillBusy, Protected, StepsShort, DataShort}
 use Rattle.writing.specs.WriteRows.{row}
-use Rattle.writing.specs.Wrote.{Buffers, plan_over, Carried, unplanned, written, abandoned, Wrote, no_limit, outside, still-busy, waited}
+use Rattle.writing.specs.Wrote.{Buffers, Left, Filled, plan_over, Carried, unplanned, written, abandoned, Wrote, no_limit, outside, still-busy, waited}
 use Rattle.calls.specs.declared.call.Refusal.TheVariants.{Write}
 use Rattle.calls.specs.declared.call.Answer.{Answer}
 use Rattle.calls.specs.declared.call.Answer.TheVariants as answers
@@ -58,15 +58,15 @@ module _ {P : Type 0} (part : Ghosts P)
     room = length b.sent
 
     abbrev Owes : Fence P → Answer → Fence P → Type 0
-    Owes f answer g = (held : List ℕ) → Owed part steps room f (writing address bytes limit) held answer g
+    Owes f answer g = (held : List ℕ) → Owed part b f (writing address bytes limit) held answer g
 
     -- a refusal: nothing alters
-    refused_owed : (f g : Fence P) (fault : WriteFault) → Unaltered fence f g
+    refused_owed : (f g : Fence P) (fault : WriteFault) → Unaltered fence f g → Left b
         → ProtectedLaw part f (writing address bytes limit) (answers.Refused (Write fault))
         → WriteCause (m f) steps room address bytes limit fault → Owes f (answers.Refused (Write fault)) g
-    refused_owed f g fault u p c held =
+    refused_owed f g fault u left p c held =
         record {
-          law = λ ref a. record { closed = u.happened.0 ∙ a.closed; reads = tt; effect = u; protected = p; cause = c };
+          law = λ ref a. record { closed = u.happened.0 ∙ a.closed; reads = tt; effect = (u, left); protected = p; cause = c };
           agrees = λ ref a. record { image = holds_moved ref.image _ _ u.image a.image; closed = u.happened.0 ∙ a.closed };
         }
 
@@ -99,18 +99,18 @@ module _ {P : Type 0} (part : Ghosts P)
       owed_as fault known l e o = subst (λ (w : WriteFault). Owes f (write_answer (Err w)) g) (sym (same_row fault known l e)) o
 
       -- planning refuses: by what it says, with the fault that has its row
-      unplanned_owed : (fault : WriteFault) (x : writes.Answer) → SaysOf (m f) x → x ≡ writes.refused (row fault) → Unaltered fence f g → Owes f (write_answer (Err fault)) g
+      unplanned_owed : (fault : WriteFault) (x : writes.Answer) → SaysOf (m f) x → x ≡ writes.refused (row fault) → Unaltered fence f g → Left b → Owes f (write_answer (Err fault)) g
       unfolding SaysOf
-      unplanned_owed fault _ (theorems.outside past) e u = absurd (omega (arith, past, passes.inside))
-      unplanned_owed fault _ (theorems.barred a inside lowest nothing) e u =
-          owed_as fault (Protected a) refl (cc) (refused_owed f g (Protected a) u (λ _. (λ _. nothing, λ _. refl)) (passes, lowest))
-      unplanned_owed fault _ (theorems.few-steps l cost inside by short) e u =
+      unplanned_owed fault _ (theorems.outside past) e u left = absurd (omega (arith, past, passes.inside))
+      unplanned_owed fault _ (theorems.barred a inside lowest nothing) e u left =
+          owed_as fault (Protected a) refl (cc) (refused_owed f g (Protected a) u left (λ _. (λ _. nothing, λ _. refl)) (passes, lowest))
+      unplanned_owed fault _ (theorems.few-steps l cost inside by short) e u left =
           owed_as fault (StepsShort cost) refl (cc)
-          (refused_owed f g (StepsShort cost) u (λ _. (λ z. absurd (omega arith), λ nothing. absurd (nothing l by.goes))) (passes, (l, by), short))
-      unplanned_owed fault _ (theorems.few_data l cost inside by enough short) e u =
+          (refused_owed f g (StepsShort cost) u left (λ _. (λ z. absurd (omega arith), λ nothing. absurd (nothing l by.goes))) (passes, (l, by), short))
+      unplanned_owed fault _ (theorems.few_data l cost inside by enough short) e u left =
           owed_as fault (DataShort cost) refl (cc)
-          (refused_owed f g (DataShort cost) u (λ _. (λ z. absurd (omega arith), λ nothing. absurd (nothing l by.goes))) (passes, (l, by), enough, short))
-      unplanned_owed fault _ (theorems.written cost list fresh inside least counts few short) e u =
+          (refused_owed f g (DataShort cost) u left (λ _. (λ z. absurd (omega arith), λ nothing. absurd (nothing l by.goes))) (passes, (l, by), enough, short))
+      unplanned_owed fault _ (theorems.written cost list fresh inside least counts few short) e u left =
           let z : ◌≡◌ {A = ℕ} 0 1 = cc in absurd (omega arith)
 
       -- what is said of a plan
@@ -119,9 +119,10 @@ module _ {P : Type 0} (part : Ghosts P)
       unfolding SaysOf
       least_of _ _ _ (theorems.written cost list fresh inside least counts few short) = least
 
-      written_owed : (cost : ℕ × ℕ) (ys : List Cycle) → LeastBy (m f).shape (protected_at (m f)) (m f).image (wanted (m f) address bytes) ys cost
-          → Did fence [] ys f g → (m g).due ≡ 0 → fence.intact f → Owes f (answers.Written cost) g
-      written_owed cost ys least d quiet i held =
+      written_owed : (cost : ℕ × ℕ) (list : List Step) (fresh : List ℕ)
+          → LeastBy (m f).shape (protected_at (m f)) (m f).image (wanted (m f) address bytes) (cycles_of fresh list) cost
+          → Filled b list fresh → Did fence [] (cycles_of fresh list) f g → (m g).due ≡ 0 → fence.intact f → Owes f (answers.Written cost) g
+      written_owed cost list fresh least filled d quiet i held =
           let leaves : (m g).image ≡ wanted (m f) address bytes = sym (d.goes i).1 ∙ least.goes.1 in
           record {
             law = λ ref a.
@@ -138,8 +139,12 @@ module _ {P : Type 0} (part : Ghosts P)
                         accepted = subst (λ (l : List Cycle). Goes (m f).shape (protected_at (m f)) (m f).image l (wanted (m f) address bytes)) (sym d.exactly) least.goes;
                         costs = ap (spent fewest) d.exactly ∙ least.costs;
                         least = least.least;
+                        plan = list;
+                        plan_data = fresh;
+                        sends = d.exactly;
+                        filled = filled;
                       };
-                  protected = λ _. (λ z. absurd z, λ nothing. nothing ys least.goes);
+                  protected = λ _. (λ z. absurd z, λ nothing. nothing (cycles_of fresh list) least.goes);
                   cause = tt;
                 };
             agrees = λ ref a. record { image = holds_put ref.image _ _ address bytes leaves a.image; closed = d.happened.0 ∙ a.closed };
@@ -147,10 +152,11 @@ module _ {P : Type 0} (part : Ghosts P)
 
       abandoned_owed : (before still : Fence P) (k : ℕ) (s : Step) (cost : ℕ × ℕ) (list : List Step) (fresh : List ℕ)
           → LeastBy (m f).shape (protected_at (m f)) (m f).image (wanted (m f) address bytes) (cycles_of fresh list) cost
-          → k < length list → Did fence [] (cycles_of fresh (take k list)) f before → (m before).due ≡ 0
+          → k < length list → take (k + 1) list ≡ take k list ++ s ∷ [] → Filled b list fresh
+          → Did fence [] (cycles_of fresh (take k list)) f before → (m before).due ≡ 0
           → Carries fence fresh s before still → limit < (m still).due → Polls fence limit still g
           → fence.intact f → Owes f (answers.Abandoned (k + 1)) g
-      abandoned_owed before still k s cost list fresh least lt d quiet step over stop i held =
+      abandoned_owed before still k s cost list fresh least lt split filled d quiet step over stop i held =
           let y = step_cycle fresh s in
           let both = did_join fence stay join [] (cycles_of fresh (take k list)) (y ∷ []) f before still d (did_over fence stay join fresh [] (y ∷ []) before still (did_step fence stay join fresh s before still step)) in
           let count : length (cycles d.events) ≡ k = ap length d.exactly ∙ (length-map (take k list) (step_cycle fresh) ∙ (length-take k list ∙ omega arith)) in
@@ -176,6 +182,14 @@ module _ {P : Type 0} (part : Ghosts P)
                         accepted =
                             subst (λ (l : List Cycle). Goes (m f).shape (protected_at (m f)) (m f).image (l ++ y ∷ []) (m g).image) (sym d.exactly)
                             (subst (λ (x : List ℕ). Goes (m f).shape (protected_at (m f)) (m f).image (cycles_of fresh (take k list) ++ y ∷ []) x) (sym (polls-image limit still g stop)) (both.goes i));
+                        plan = list;
+                        plan_data = fresh;
+                        cost = cost;
+                        least = least;
+                        sends =
+                            ap (λ (l : List Cycle). l ++ y ∷ []) d.exactly
+                            ∙ (sym (map-append (step_cycle fresh) (take k list) (s ∷ [])) ∙ sym (ap (cycles_of fresh) split));
+                        filled = filled;
                       };
                   protected = λ _. (λ z. absurd z, λ nothing. nothing (cycles_of fresh list) least.goes);
                   cause = tt;
@@ -187,21 +201,21 @@ module _ {P : Type 0} (part : Ghosts P)
         → SaysOf (m idle) (plan_over (m idle) address bytes steps room) → Carried fence limit address bytes b idle g r → Owes f (write_answer r) g
     carried_owed n f idle g _ passes i p says (unplanned fault e d same left) =
         unplanned_owed f g passes fault (writes.refused (row fault)) (says_before n f idle _ p says e) refl
-        (unaltered_did f g (after-polls n f idle g [] p d) (ap (λ (x : Meaning). x.image) same ∙ polls-image n f idle p))
+        (unaltered_did f g (after-polls n f idle g [] p d) (ap (λ (x : Meaning). x.image) same ∙ polls-image n f idle p)) left
     carried_owed n f idle g _ passes i p says (written cost list fresh e filled d quiet) =
-        written_owed f g passes cost (cycles_of fresh list) (least_of f g passes cost list fresh (says_before n f idle _ p says e)) (after-polls n f idle g _ p d) quiet i
+        written_owed f g passes cost list fresh (least_of f g passes cost list fresh (says_before n f idle _ p says e)) filled (after-polls n f idle g _ p d) quiet i
     carried_owed n f idle g _ passes i p says (abandoned {before = before} {still = still} k s cost list fresh e filled lt split d quiet step over stop) =
-        abandoned_owed f g passes before still k s cost list fresh (least_of f g passes cost list fresh (says_before n f idle _ p says e)) lt
+        abandoned_owed f g passes before still k s cost list fresh (least_of f g passes cost list fresh (says_before n f idle _ p says e)) lt split filled
         (after-polls n f idle before _ p d) quiet step over stop i
 
     pub write_owed : (f g : Fence P) (r : Result (ℕ × ℕ) WriteFault) → fence.intact f → Wrote fence limit address bytes b f g r → Owes f (write_answer r) g
     unfolding SaysOf
     write_owed f g _ i (no_limit off same left) =
-        refused_owed f g (Limit limit) (unaltered_same f g same) (λ p. absurd (both_ways _ off p.limited)) (refl, off)
+        refused_owed f g (Limit limit) (unaltered_same f g same) left (λ p. absurd (both_ways _ off p.limited)) (refl, off)
     write_owed f g _ i (outside on past same left) =
-        refused_owed f g (Outside address) (unaltered_same f g same) (λ p. absurd (omega (arith, past, p.inside))) (refl, on, past)
+        refused_owed f g (Outside address) (unaltered_same f g same) left (λ p. absurd (omega (arith, past, p.inside))) (refl, on, past)
     write_owed f g _ i (still-busy on inside due p left) =
-        refused_owed f g (StillBusy limit) (unaltered_did f g (did_polls fence stay join [] limit f g p) (polls-image limit f g p))
+        refused_owed f g (StillBusy limit) (unaltered_did f g (did_polls fence stay join [] limit f g p) (polls-image limit f g p)) left
         (λ q. absurd (omega (arith, due, q.waits))) (refl, on, inside, due)
     write_owed f g r i (waited {idle = idle} on inside due p says carried) =
         carried_owed (m f).due f idle g r (record { limited = on; inside = inside; waits = due }) i p says (carried i)

@@ -1,5 +1,5 @@
 -- What has to hold of a part for a call to be refused, and for a write to be done or abandoned.
-use Rattle.std.specs.Prelude.{◌≡◌, ℕ, ◌+◌, ◌<◌, ◌≤◌, true, false, ◌⊎◌, List, [], ◌∷◌, ◌++◌, length, replicate, Some}
+use Rattle.std.specs.Prelude.{◌≡◌, ℕ, ◌+◌, ◌<◌, ◌≤◌, true, false, ◌⊎◌, List, [], ◌∷◌, ◌++◌, length, take, replicate, Some}
 use Rattle.memory.specs.Shape.{size}
 use Rattle.memory.specs.Page.{put}
 use Rattle.memory.specs.Cycle.{Cycle, Goes}
@@ -10,7 +10,10 @@ use Rattle.least.specs.Barred.{LowestIs}
 use Rattle.least.specs.Cost.{spent}
 use Rattle.least.specs.Fewest.{fewest}
 use Rattle.least.specs.Theorems.{LeastBy}
+use Rattle.least.specs.declared.step.Step.{Step}
+use Rattle.least.specs.Steps.{cycles_of}
 use Rattle.planner.specs.Running.{allowed}
+use Rattle.writing.specs.Wrote.{Buffers, Filled}
 use Rattle.writing.specs.declared.fault.WriteFault.{WriteFault}
 use Rattle.writing.specs.declared.fault.WriteFault.TheVariants.{Limit, Outside, StillBusy, Protected, StepsShort, DataShort, Abandoned, Refused}
 use Rattle.calls.specs.declared.call.Refusal.{Refusal}
@@ -73,9 +76,9 @@ module _ {F : Type 0} (part : Ghosts F) where
     pub none : cycles events ≡ []
     pub image : (part.meaning g).image ≡ (part.meaning f).image
 
-  -- a done write: it leaves the image wanted and nothing due, its answer is the cost of the cycles that it sent, and every accepted
-  -- list that leads there costs at least that
-  pub record DoneWrite (address : ℕ) (bytes : List ℕ) (limit : ℕ) (cost : ℕ × ℕ) (f g : F) : Type 0 where
+  -- a done write: it leaves the image wanted and nothing due, its answer is the cost of the cycles that it sent, every accepted
+  -- list that leads there costs at least that, and both buffers begin with the steps and the data that it sent
+  pub record DoneWrite (address : ℕ) (bytes : List ℕ) (limit : ℕ) (b : Buffers) (cost : ℕ × ℕ) (f g : F) : Type 0 where
     pub passes : Passes (part.meaning f) address (length bytes) limit
     pub leaves : (part.meaning g).image ≡ wanted (part.meaning f) address bytes
     pub idle : (part.meaning g).due ≡ 0
@@ -84,10 +87,15 @@ module _ {F : Type 0} (part : Ghosts F) where
     pub accepted : Leads (part.meaning f) (cycles events) (wanted (part.meaning f) address bytes)
     pub costs : spent fewest (cycles events) ≡ cost
     pub least : (l : List Cycle) → Leads (part.meaning f) l (wanted (part.meaning f) address bytes) → fewest.leq cost (spent fewest l) ≡ true
+    pub plan : List Step
+    pub plan_data : List ℕ
+    pub sends : cycles events ≡ cycles_of plan_data plan
+    pub filled : Filled b plan plan_data
 
   -- an abandoned write: n cycles were sent, and after the last of them more polls were due than the limit; the limit's
-  -- polls were made, and the image is the one that these cycles leave
-  pub record AbandonedWrite (address : ℕ) (bytes : List ℕ) (limit n : ℕ) (f g : F) : Type 0 where
+  -- polls were made, and the image is the one that these cycles leave; they are the first of a plan of least cost, which both
+  -- buffers begin with
+  pub record AbandonedWrite (address : ℕ) (bytes : List ℕ) (limit : ℕ) (b : Buffers) (n : ℕ) (f g : F) : Type 0 where
     pub passes : Passes (part.meaning f) address (length bytes) limit
     -- the fence before its last cycle, and just after it
     pub before : F
@@ -101,3 +109,9 @@ module _ {F : Type 0} (part : Ghosts F) where
     pub beyond : limit < (part.meaning still).due
     pub polled : part.trace still g (replicate limit polled)
     pub accepted : Leads (part.meaning f) (cycles events ++ last ∷ []) (part.meaning g).image
+    pub plan : List Step
+    pub plan_data : List ℕ
+    pub cost : ℕ × ℕ
+    pub least : LeastBy (part.meaning f).shape (protected_at (part.meaning f)) (part.meaning f).image (wanted (part.meaning f) address bytes) (cycles_of plan_data plan) cost
+    pub sends : cycles events ++ last ∷ [] ≡ cycles_of plan_data (take n plan)
+    pub filled : Filled b plan plan_data

@@ -5,6 +5,7 @@ use Rattle.part.specs.declared.part.Part.{Ghosts}
 use Rattle.part.specs.Meaning.{Meaning, Event}
 use Rattle.fence.specs.declared.fence.Fence.{Fence}
 use Rattle.fence.specs.Closed.{fenced}
+use Rattle.writing.specs.Wrote.{Buffers, Left}
 use Rattle.calls.specs.declared.call.Answer.{Answer}
 use Rattle.calls.specs.declared.call.Answer.TheVariants.{Done, Written, Refused, Abandoned}
 use Rattle.calls.specs.Refusals.{row}
@@ -43,15 +44,15 @@ module _ {P : Type 0} (part : Ghosts P) where
   ReadLaw ref (writing address bytes limit) held answer = Unit {0}
 
   -- a done write leaves what it wanted at the least cost, and answers what it sent; an abandoned one tells how far it came;
-  -- nothing else alters the image
-  abbrev pub EffectLaw : Fence P → Request → Answer → Fence P → Type 0
-  EffectLaw f (closing sector) answer g = (g.part ≡ f.part)
-  EffectLaw f (opening sector) answer g = (g.part ≡ f.part)
-  EffectLaw f (reading address n) answer g = (meant g ≡ meant f) × Unaltered fencing f g
-  EffectLaw f (writing address bytes limit) Done g = ⊥
-  EffectLaw f (writing address bytes limit) (Written cost) g = DoneWrite fencing address bytes limit cost f g
-  EffectLaw f (writing address bytes limit) (Refused refusal) g = Unaltered fencing f g
-  EffectLaw f (writing address bytes limit) (Abandoned cycles) g = AbandonedWrite fencing address bytes limit cycles f g
+  -- nothing else alters the image, the step list or the data buffer
+  abbrev pub EffectLaw : Buffers → Fence P → Request → Answer → Fence P → Type 0
+  EffectLaw b f (closing sector) answer g = (g.part ≡ f.part) × Left b
+  EffectLaw b f (opening sector) answer g = (g.part ≡ f.part) × Left b
+  EffectLaw b f (reading address n) answer g = (meant g ≡ meant f) × Unaltered fencing f g × Left b
+  EffectLaw b f (writing address bytes limit) Done g = ⊥
+  EffectLaw b f (writing address bytes limit) (Written cost) g = DoneWrite fencing address bytes limit b cost f g
+  EffectLaw b f (writing address bytes limit) (Refused refusal) g = Unaltered fencing f g × Left b
+  EffectLaw b f (writing address bytes limit) (Abandoned cycles) g = AbandonedWrite fencing address bytes limit b cycles f g
 
   -- a write that passes the checks before protection is refused as protected exactly when nothing leads to what it wants
   abbrev pub ProtectedLaw : Fence P → Request → Answer → Type 0
@@ -70,9 +71,10 @@ module _ {P : Type 0} (part : Ghosts P) where
   CauseLaw steps room f request (Refused refusal) = Cause (meant f) steps room request refusal
   CauseLaw steps room f request (Abandoned cycles) = Unit {0}
 
-  pub record Law (steps room : ℕ) (ref : Reference) (f : Fence P) (request : Request) (held : List ℕ) (answer : Answer) (g : Fence P) : Type 0 where
+  -- of a call that leaves its buffer as `held`, and the step list and the data buffer as the second half of `b` says
+  pub record Law (b : Buffers) (ref : Reference) (f : Fence P) (request : Request) (held : List ℕ) (answer : Answer) (g : Fence P) : Type 0 where
     pub closed : g.closed ≡ (fed ref request (outcome answer)).closed
     pub reads : ReadLaw ref request held answer
-    pub effect : EffectLaw f request answer g
+    pub effect : EffectLaw b f request answer g
     pub protected : ProtectedLaw f request answer
-    pub cause : CauseLaw steps room f request answer
+    pub cause : CauseLaw (length b.steps) (length b.sent) f request answer
