@@ -2,14 +2,13 @@
 use Rattle.std.proofs.Common.{◌≡◌, ℕ, suc, ◌+◌, ◌<◌, List, [], ◌∷◌, ◌++◌, Some, length, take, drop, set, get_or, sym, refl, ap, ◌∙◌, subst, arith, drop-cons, take-suc}
 use Rattle.std.proofs.lemmas.List.{drop-set-lt, take_more_set}
 use Rattle.part.specs.declared.part.Part.{Ghosts}
-use Rattle.fence.specs.declared.fence.Fence.{Fence}
 use Rattle.fence.specs.Fenced.{fresh}
 use Rattle.least.specs.declared.step.Step.{Step}
 use Rattle.calls.specs.declared.call.Answer.{Answer}
 use Rattle.calls.specs.declared.call.Call.{Call}
 use Rattle.calls.specs.declared.call.Entry.{Entry}
-use Rattle.calls.specs.Requests.{Recorded, Records, asks, buffer, outcome}
-use Rattle.calls.specs.Reference.{Reference, fed}
+use Rattle.calls.specs.Requests.{Recorded, Records, asks, buffer}
+use Rattle.calls.specs.Reference.{Reference}
 use Rattle.calls.specs.Law.{Law}
 use Rattle.calls.specs.History.{History, State, none, more, between, fed_by, fed_all, state, Agrees, Follows, start}
 

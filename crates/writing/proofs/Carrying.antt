@@ -60,7 +60,7 @@ module _ {P : Type 0} (part : Ghosts P)
           keeps = d.keeps;
         }
 
-    did_looked : (sent : List ℕ) (n : ℕ) (a b : P) → LookedBy part n a b → Did part sent [] a b
+    pub did_looked : (sent : List ℕ) (n : ℕ) (a b : P) → LookedBy part n a b → Did part sent [] a b
     did_looked sent n a b l =
         record {
           events = l.asked.0;
@@ -72,7 +72,7 @@ module _ {P : Type 0} (part : Ghosts P)
           keeps = l.keeps;
         }
 
-    polls-idle : (a b : P) → Polls part (part.meaning a).due a b → (part.meaning b).due ≡ 0
+    pub polls-idle : (a b : P) → Polls part (part.meaning a).due a b → (part.meaning b).due ≡ 0
     polls-idle a b p = let e : (part.meaning b).due ≡ (part.meaning a).due - (part.meaning a).due = ap (λ m. m.due) p.leaves in omega arith
 
     -- a wait with nothing due makes no poll
@@ -86,7 +86,7 @@ module _ {P : Type 0} (part : Ghosts P)
           asked = (l.asked.0, subst (part.trace a c) (append-nil l.asked.0) (joins a b c l.asked.0 [] l.asked.1 none), l.asked.2, l.asked.3, l.asked.4);
         }
 
-    sends-idle : {sent : List ℕ} {limit : ℕ} {a b : P} {l : List Step} → (part.meaning a).due ≡ 0 → Sends part sent limit a l b → (part.meaning b).due ≡ 0
+    pub sends-idle : {sent : List ℕ} {limit : ℕ} {a b : P} {l : List Step} → (part.meaning a).due ≡ 0 → Sends part sent limit a l b → (part.meaning b).due ≡ 0
     sends-idle e running.none = e
     sends-idle e (running.more {c = c} {d = d} sends idle step due wait) = polls-idle c d wait
 

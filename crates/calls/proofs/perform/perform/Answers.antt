@@ -1,5 +1,4 @@
 use Rattle.std.proofs.Common.{◌<◌, length, refl, arith}
-use Rattle.std.proofs.lemmas.List.{take_all}
 use Rattle.calls.proofs.Histories.{so_far_none, so_far_next, records_next, rest_next}
 use Rattle.calls.proofs.perform.perform.Goals as goal
 

@@ -1,4 +1,4 @@
-use Rattle.std.proofs.Common.{◌≡◌, ◌+◌, ◌≤◌, length, take, drop}
+use Rattle.std.proofs.Common.{◌≡◌, take, drop}
 use Rattle.calls.specs.Requests.{Records}
 use Rattle.calls.specs.History.{state}
 use Rattle.calls.proofs.Histories.{SoFar}
