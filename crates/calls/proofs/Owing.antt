@@ -3,12 +3,13 @@ use Rattle.std.proofs.Common.{◌≡◌, ℕ, List, Some, None, Option, sym, ap,
 use Rattle.memory.specs.Page.{put}
 use Rattle.part.specs.declared.part.Part.{Ghosts}
 use Rattle.fence.specs.declared.fence.Fence.{Fence}
+use Rattle.writing.specs.Wrote.{Buffers}
 use Rattle.calls.specs.declared.call.Answer.{Answer}
 use Rattle.calls.specs.declared.call.Call.{Call}
-use Rattle.calls.specs.Requests.{Request, asks, buffer, entry, outcome}
+use Rattle.calls.specs.Requests.{Request, asks, buffer, outcome}
 use Rattle.calls.specs.Reference.{Reference, Holds, fed, rewritten}
 use Rattle.calls.specs.Law.{Law}
-use Rattle.calls.specs.History.{Agrees, Follows}
+use Rattle.calls.specs.History.{Agrees, Follows, State, between}
 
 -- what the reference holds of an image, of the next image
 pub holds_moved : (o : Option (List ℕ)) (x y : List ℕ) → y ≡ x → Holds o (λ i. x ≡ i) → Holds o (λ i. y ≡ i)
@@ -20,12 +21,12 @@ pub holds_put : (o : Option (List ℕ)) (x y : List ℕ) (address : ℕ) (bytes 
 holds_put None x y address bytes e h = tt
 holds_put (Some i) x y address bytes e h = e ∙ ap (put address bytes) h
 
-module _ {P : Type 0} (part : Ghosts P) (steps room : ℕ) where
-  pub record Owed (f : Fence P) (request : Request) (held : List ℕ) (answer : Answer) (g : Fence P) : Type 0 where
-    pub law : (ref : Reference) → Agrees part steps room ref f → Law part steps room ref f request held answer g
-    pub agrees : (ref : Reference) → Agrees part steps room ref f → Agrees part steps room (fed ref request (outcome answer)) g
+module _ {P : Type 0} (part : Ghosts P) where
+  pub record Owed (b : Buffers) (f : Fence P) (request : Request) (held : List ℕ) (answer : Answer) (g : Fence P) : Type 0 where
+    pub law : (ref : Reference) → Agrees part ref f → Law part b ref f request held answer g
+    pub agrees : (ref : Reference) → Agrees part ref f → Agrees part (fed ref request (outcome answer)) g
 
-  pub owed_follows : (f g : Fence P) (call : Call) (answer answer' : Answer) → answer' ≡ answer
-      → Owed f (asks call) (buffer call) answer g → Follows part steps room f (entry call answer') g
-  owed_follows f g call answer answer' e o =
-      subst (λ (x : Answer). Follows part steps room f (entry call x) g) (sym e) (record { law = o.law; agrees = o.agrees })
+  pub owed_follows : (s t : State P) (call : Call) (answer answer' : Answer) → answer' ≡ answer
+      → Owed (between s t) s.fence (asks call) (buffer call) answer t.fence → Follows part s call answer' t
+  owed_follows s t call answer answer' e o =
+      subst (λ (x : Answer). Follows part s call x t) (sym e) (record { law = o.law; agrees = o.agrees })

@@ -1,35 +1,48 @@
 -- A write through a fence keeps the law.
-use Rattle.std.proofs.Common.{◌≡◌, ℕ, ◌+◌, ◌<◌, List, [], ◌∷◌, ◌++◌, length, take, Err, Result, sym, refl, ap, ◌∙◌, subst, arith, length-append, length-take}
-use Rattle.std.proofs.lemmas.List.{length-map}
+use Rattle.std.proofs.Common.{◌≡◌, ℕ, ◌+◌, ◌*◌, ◌<◌, List, [], ◌∷◌, ◌++◌, length, take, Err, Result, sym, refl, ap, ap₂, ◌∙◌, subst, arith, length-append, length-take}
+use Rattle.std.proofs.lemmas.List.{length-map, map-append, take-map}
 use Rattle.std.proofs.lemmas.Bool.{both_ways}
+use Rattle.memory.specs.Shape.{size}
 use Rattle.memory.specs.Cycle.{Cycle, Goes}
 use Rattle.part.specs.declared.part.Part.{Ghosts}
-use Rattle.part.specs.Meaning.{Meaning, Event, cycles, protected_at}
+use Rattle.part.specs.Meaning.{Meaning, Event, protected_at}
 use Rattle.fence.specs.declared.fence.Fence.{Fence}
 use Rattle.least.specs.declared.step.Step.{Step}
-use Rattle.least.specs.Cost.{spent}
-use Rattle.least.specs.Fewest.{fewest}
-use Rattle.least.specs.Steps.{cycles_of, step_cycle}
+use Rattle.least.specs.Steps.{cycles_of, step_cycle, steps_of, data_of}
+use Rattle.least.proofs.Stepped.{steps_are_cycles}
 use Rattle.least.specs.Writes as writes
 use Rattle.least.specs.Theorems as theorems
 use Rattle.least.specs.Theorems.{Says, LeastBy}
 use Rattle.planner.specs.Waits.{Polls}
-use Rattle.planner.specs.Running.{Carries, Did}
-use Rattle.planner.proofs.Doings.{did_polls, did_step, did_join}
-use Rattle.writing.proofs.Carrying.{did_over}
+use Rattle.planner.specs.Looking.{LookedBy}
+use Rattle.planner.specs.Running.{Carries, Did, Sends, none as sent_none, more as sent_more}
+use Rattle.planner.proofs.Doings.{did_polls, did_step, did_join, sends_did}
+use Rattle.writing.proofs.Carrying.{did_looked, did_over, polls-idle, sends-idle}
+use Rattle.writing.proofs.Unrefused.{Made, planned-made}
 use Rattle.writing.specs.declared.fault.WriteFault.{WriteFault}
 use Rattle.writing.specs.declared.fault.WriteFault.TheVariants.{Limit, Outside, StillBusy, Protected, StepsShort, DataShort}
 use Rattle.writing.specs.WriteRows.{row}
-use Rattle.writing.specs.Wrote.{Buffers, plan_over, Carried, unplanned, written, abandoned, Wrote, no_limit, outside, still-busy, waited}
+use Rattle.writing.specs.Wrote.{Buffers, Left, Filled, Planned, plan_over, Carried, unplanned, written, abandoned, Wrote, no_limit, outside, still-busy, waited}
 use Rattle.calls.specs.declared.call.Refusal.TheVariants.{Write}
 use Rattle.calls.specs.declared.call.Answer.{Answer}
 use Rattle.calls.specs.declared.call.Answer.TheVariants as answers
 use Rattle.calls.specs.Refusals.{write_answer}
 use Rattle.calls.specs.Requests.{writing}
-use Rattle.calls.specs.Causes.{Passes, Unaltered, WriteCause, wanted}
+use Rattle.calls.specs.Causes.{Passes, WriteCause, wanted}
+use Rattle.calls.specs.Effects.{Begun, Paced, none, more, RefusedWrite, Roomy}
 use Rattle.calls.specs.Law.{ProtectedLaw, fencing, meant, Traced}
 use Rattle.calls.proofs.Owing.{Owed, holds_moved, holds_put}
 use Rattle.calls.proofs.Rows.{same_row}
+
+-- a plan that is handed out is the steps and the data of its cycles
+made_filled : (b : Buffers) (list : List Step) (fresh : List ℕ) → Made list fresh → Filled b list fresh
+    → Filled b (steps_of (cycles_of fresh list)) (data_of (cycles_of fresh list))
+made_filled b list fresh made filled =
+    let ys = made.cycles in
+    let e : cycles_of fresh list ≡ ys = ap₂ cycles_of made.bytes made.steps ∙ (steps_are_cycles ys).0 in
+    let u : steps_of (cycles_of fresh list) ≡ list = ap steps_of e ∙ sym made.steps in
+    let v : data_of (cycles_of fresh list) ≡ fresh = ap data_of e ∙ sym made.bytes in
+    subst (λ (l : List Step). Filled b l (data_of (cycles_of fresh list))) (sym u) (subst (λ (x : List ℕ). Filled b list x) (sym v) filled)
 
 module _ {P : Type 0} (part : Ghosts P)
     (stays : (s : P) → part.trace s s [])
@@ -58,31 +71,27 @@ module _ {P : Type 0} (part : Ghosts P)
     room = length b.sent
 
     abbrev Owes : Fence P → Answer → Fence P → Type 0
-    Owes f answer g = (held : List ℕ) → Owed part steps room f (writing address bytes limit) held answer g
+    Owes f answer g = (held : List ℕ) → Owed part b f (writing address bytes limit) held answer g
 
     -- a refusal: nothing alters
-    refused_owed : (f g : Fence P) (fault : WriteFault) → Unaltered fence f g
+    refused_owed : (f g : Fence P) (fault : WriteFault) → g.closed ≡ f.closed → (m g).image ≡ (m f).image → RefusedWrite fence fault f g → Left b
         → ProtectedLaw part f (writing address bytes limit) (answers.Refused (Write fault))
         → WriteCause (m f) steps room address bytes limit fault → Owes f (answers.Refused (Write fault)) g
-    refused_owed f g fault u p c held =
+    refused_owed f g fault shut same u left p c held =
         record {
-          law = λ ref a. record { closed = u.happened.0 ∙ a.closed; reads = tt; effect = u; protected = p; cause = c };
-          agrees = λ ref a. record { image = holds_moved ref.image _ _ u.image a.image; closed = u.happened.0 ∙ a.closed };
+          law = λ ref a. record { closed = shut ∙ a.closed; reads = tt; effect = (u, left); protected = p; cause = c };
+          agrees = λ ref a. record { image = holds_moved ref.image _ _ same a.image; closed = shut ∙ a.closed };
         }
-
-    unaltered_same : (f g : Fence P) → g ≡ f → Unaltered fence f g
-    unaltered_same f g e =
-        record { events = []; happened = subst (λ x. t f x []) (sym e) (stay f); none = refl; image = ap (λ x. (m x).image) e }
-
-    unaltered_did : (f g : Fence P) → Did fence [] [] f g → (m g).image ≡ (m f).image → Unaltered fence f g
-    unaltered_did f g d e = record { events = d.events; happened = d.happened; none = d.exactly; image = e }
 
     polls-image : (n : ℕ) (f g : Fence P) → Polls fence n f g → (m g).image ≡ (m f).image
     polls-image n f g p = ap (λ (x : Meaning). x.image) p.leaves
 
-    -- waiting first, and then what was done
-    after-polls : (n : ℕ) (f idle g : Fence P) (ys : List Cycle) → Polls fence n f idle → Did fence [] ys idle g → Did fence [] ys f g
-    after-polls n f idle g ys p d = did_join fence stay join [] [] ys f idle g (did_polls fence stay join [] n f idle p) d
+    -- steps that were sent are cycles that were sent
+    paced_of : {fresh : List ℕ} {f g : Fence P} {list : List Step} → Sends fence fresh limit f list g → Paced fence limit f (cycles_of fresh list) g
+    paced_of sent_none = none
+    paced_of {fresh = fresh} {f = f} {g = g} (sent_more {l = l} {s = s} sends idle step due wait) =
+        subst (λ (ys : List Cycle). Paced fence limit f ys g) (sym (map-append (step_cycle fresh) l (s ∷ [])))
+        (more (paced_of sends) idle step.event step.due due wait)
 
     -- planning answers the same before and after the wait
     SaysOf : Meaning → writes.Answer → Type 0
@@ -93,118 +102,160 @@ module _ {P : Type 0} (part : Ghosts P)
     unfolding SaysOf
     says_before n f idle x p s e = subst (λ (y : Meaning). SaysOf y x) p.leaves (subst (λ (z : writes.Answer). SaysOf (m idle) z) e s)
 
+    abbrev Least : Fence P → List Cycle → ℕ × ℕ → Type 0
+    Least f ys cost = LeastBy (m f).shape (protected_at (m f)) (m f).image (wanted (m f) address bytes) ys cost
+
     module _ (f g : Fence P) (passes : Passes (m f) address (length bytes) limit) where
       -- a refusal told by the row of another is that one
       owed_as : (fault known : WriteFault) → (row known).layer ≡ 1 → row fault ≡ row known → Owes f (write_answer (Err known)) g → Owes f (write_answer (Err fault)) g
       owed_as fault known l e o = subst (λ (w : WriteFault). Owes f (write_answer (Err w)) g) (sym (same_row fault known l e)) o
 
       -- planning refuses: by what it says, with the fault that has its row
-      unplanned_owed : (fault : WriteFault) (x : writes.Answer) → SaysOf (m f) x → x ≡ writes.refused (row fault) → Unaltered fence f g → Owes f (write_answer (Err fault)) g
+      unplanned_owed : (fault : WriteFault) (x : writes.Answer) → SaysOf (m f) x → x ≡ writes.refused (row fault) → g.closed ≡ f.closed → (m g).image ≡ (m f).image
+          → Begun fence f g → Left b → Owes f (write_answer (Err fault)) g
       unfolding SaysOf
-      unplanned_owed fault _ (theorems.outside past) e u = absurd (omega (arith, past, passes.inside))
-      unplanned_owed fault _ (theorems.barred a inside lowest nothing) e u =
-          owed_as fault (Protected a) refl (cc) (refused_owed f g (Protected a) u (λ _. (λ _. nothing, λ _. refl)) (passes, lowest))
-      unplanned_owed fault _ (theorems.few-steps l cost inside by short) e u =
+      unplanned_owed fault _ (theorems.outside past) e shut same u left = absurd (omega (arith, past, passes.inside))
+      unplanned_owed fault _ (theorems.barred a inside lowest nothing) e shut same u left =
+          owed_as fault (Protected a) refl (cc) (refused_owed f g (Protected a) shut same u left (λ _. (λ _. nothing, λ _. refl)) (passes, lowest))
+      unplanned_owed fault _ (theorems.few-steps l cost inside by short) e shut same u left =
           owed_as fault (StepsShort cost) refl (cc)
-          (refused_owed f g (StepsShort cost) u (λ _. (λ z. absurd (omega arith), λ nothing. absurd (nothing l by.goes))) (passes, (l, by), short))
-      unplanned_owed fault _ (theorems.few_data l cost inside by enough short) e u =
+          (refused_owed f g (StepsShort cost) shut same u left (λ _. (λ z. absurd (omega arith), λ nothing. absurd (nothing l by.goes))) (passes, (l, by), short))
+      unplanned_owed fault _ (theorems.few_data l cost inside by enough short) e shut same u left =
           owed_as fault (DataShort cost) refl (cc)
-          (refused_owed f g (DataShort cost) u (λ _. (λ z. absurd (omega arith), λ nothing. absurd (nothing l by.goes))) (passes, (l, by), enough, short))
-      unplanned_owed fault _ (theorems.written cost list fresh inside least counts few short) e u =
+          (refused_owed f g (DataShort cost) shut same u left (λ _. (λ z. absurd (omega arith), λ nothing. absurd (nothing l by.goes))) (passes, (l, by), enough, short))
+      unplanned_owed fault _ (theorems.written cost list fresh inside least counts few short) e shut same u left =
           let z : ◌≡◌ {A = ℕ} 0 1 = cc in absurd (omega arith)
 
       -- what is said of a plan
-      least_of : (cost : ℕ × ℕ) (list : List Step) (fresh : List ℕ) → SaysOf (m f) (writes.planned cost list fresh)
-          → LeastBy (m f).shape (protected_at (m f)) (m f).image (wanted (m f) address bytes) (cycles_of fresh list) cost
+      plan_of : (cost : ℕ × ℕ) (list : List Step) (fresh : List ℕ) → SaysOf (m f) (writes.planned cost list fresh)
+          → Least f (cycles_of fresh list) cost × Roomy b cost
       unfolding SaysOf
-      least_of _ _ _ (theorems.written cost list fresh inside least counts few short) = least
+      plan_of _ _ _ (theorems.written cost list fresh inside least counts few short) =
+          let c = ap (λ (x : ℕ × ℕ). x.0) counts in
+          let d = ap (λ (x : ℕ × ℕ). x.1) counts in (least, (omega arith, omega arith))
 
-      written_owed : (cost : ℕ × ℕ) (ys : List Cycle) → LeastBy (m f).shape (protected_at (m f)) (m f).image (wanted (m f) address bytes) ys cost
-          → Did fence [] ys f g → (m g).due ≡ 0 → fence.intact f → Owes f (answers.Written cost) g
-      written_owed cost ys least d quiet i held =
-          let leaves : (m g).image ≡ wanted (m f) address bytes = sym (d.goes i).1 ∙ least.goes.1 in
-          record {
-            law = λ ref a.
-                record {
-                  closed = d.happened.0 ∙ a.closed;
-                  reads = tt;
-                  effect =
-                      record {
-                        passes = passes;
-                        leaves = leaves;
-                        idle = quiet;
-                        events = d.events;
-                        happened = d.happened;
-                        accepted = subst (λ (l : List Cycle). Goes (m f).shape (protected_at (m f)) (m f).image l (wanted (m f) address bytes)) (sym d.exactly) least.goes;
-                        costs = ap (spent fewest) d.exactly ∙ least.costs;
-                        least = least.least;
-                      };
-                  protected = λ _. (λ z. absurd z, λ nothing. nothing ys least.goes);
-                  cause = tt;
-                };
-            agrees = λ ref a. record { image = holds_put ref.image _ _ address bytes leaves a.image; closed = d.happened.0 ∙ a.closed };
-          }
+      module _ (ready : Fence P) (begins : Begun fence f ready) (cost : ℕ × ℕ) (list : List Step) (fresh : List ℕ) (i : fence.intact f)
+          (plan : Least f (cycles_of fresh list) cost × Roomy b cost) (filled : Filled b (steps_of (cycles_of fresh list)) (data_of (cycles_of fresh list)))
+        where
+          written_owed : Did fence [] (cycles_of fresh list) f g → Sends fence fresh limit ready list g → (m g).due ≡ 0 → Owes f (answers.Written cost) g
+          written_owed d sends quiet held =
+              let leaves : (m g).image ≡ wanted (m f) address bytes = sym (d.goes i).1 ∙ plan.0.goes.1 in
+              record {
+                law = λ ref a.
+                    record {
+                      closed = d.happened.0 ∙ a.closed;
+                      reads = tt;
+                      effect =
+                          record {
+                            passes = passes;
+                            ready = ready;
+                            begins = begins;
+                            sent = cycles_of fresh list;
+                            paced = paced_of sends;
+                            idle = quiet;
+                            leaves = leaves;
+                            accepted = plan.0.goes;
+                            costs = plan.0.costs;
+                            least = plan.0.least;
+                            room = plan.1;
+                            filled = filled;
+                          };
+                      protected = λ _. (λ z. absurd z, λ nothing. nothing (cycles_of fresh list) plan.0.goes);
+                      cause = tt;
+                    };
+                agrees = λ ref a. record { image = holds_put ref.image _ _ address bytes leaves a.image; closed = d.happened.0 ∙ a.closed };
+              }
 
-      abandoned_owed : (before still : Fence P) (k : ℕ) (s : Step) (cost : ℕ × ℕ) (list : List Step) (fresh : List ℕ)
-          → LeastBy (m f).shape (protected_at (m f)) (m f).image (wanted (m f) address bytes) (cycles_of fresh list) cost
-          → k < length list → Did fence [] (cycles_of fresh (take k list)) f before → (m before).due ≡ 0
-          → Carries fence fresh s before still → limit < (m still).due → Polls fence limit still g
-          → fence.intact f → Owes f (answers.Abandoned (k + 1)) g
-      abandoned_owed before still k s cost list fresh least lt d quiet step over stop i held =
-          let y = step_cycle fresh s in
-          let both = did_join fence stay join [] (cycles_of fresh (take k list)) (y ∷ []) f before still d (did_over fence stay join fresh [] (y ∷ []) before still (did_step fence stay join fresh s before still step)) in
-          let count : length (cycles d.events) ≡ k = ap length d.exactly ∙ (length-map (take k list) (step_cycle fresh) ∙ (length-take k list ∙ omega arith)) in
-          let shut : g.closed ≡ f.closed = stop.made.0 ∙ (step.event.0 ∙ d.happened.0) in
-          record {
-            law = λ ref a.
-                record {
-                  closed = shut ∙ a.closed;
-                  reads = tt;
-                  effect =
-                      record {
-                        passes = passes;
-                        before = before;
-                        still = still;
-                        events = d.events;
-                        last = y;
-                        happened = d.happened;
-                        idle = quiet;
-                        sent = step.event;
-                        counted = sym (length-append (cycles d.events) (y ∷ []) ∙ ap (λ (x : ℕ). x + 1) count);
-                        beyond = over;
-                        polled = stop.made;
-                        accepted =
-                            subst (λ (l : List Cycle). Goes (m f).shape (protected_at (m f)) (m f).image (l ++ y ∷ []) (m g).image) (sym d.exactly)
-                            (subst (λ (x : List ℕ). Goes (m f).shape (protected_at (m f)) (m f).image (cycles_of fresh (take k list) ++ y ∷ []) x) (sym (polls-image limit still g stop)) (both.goes i));
-                      };
-                  protected = λ _. (λ z. absurd z, λ nothing. nothing (cycles_of fresh list) least.goes);
-                  cause = tt;
-                };
-            agrees = λ ref a. record { image = tt; closed = shut ∙ a.closed };
-          }
+          abandoned_owed : (before still : Fence P) (k : ℕ) (s : Step) → k < length list → take (k + 1) list ≡ take k list ++ s ∷ []
+              → Did fence [] (cycles_of fresh (take k list)) f before → Sends fence fresh limit ready (take k list) before → (m before).due ≡ 0
+              → Carries fence fresh s before still → limit < (m still).due → Polls fence limit still g → Owes f (answers.Abandoned (k + 1)) g
+          abandoned_owed before still k s lt split d sends quiet step over stop held =
+              let y = step_cycle fresh s in
+              let ys = cycles_of fresh (take k list) in
+              let both = did_join fence stay join [] ys (y ∷ []) f before still d (did_over fence stay join fresh [] (y ∷ []) before still (did_step fence stay join fresh s before still step)) in
+              let count : length ys ≡ k = length-map (take k list) (step_cycle fresh) ∙ (length-take k list ∙ omega arith) in
+              let shut : g.closed ≡ f.closed = stop.made.0 ∙ (step.event.0 ∙ d.happened.0) in
+              record {
+                law = λ ref a.
+                    record {
+                      closed = shut ∙ a.closed;
+                      reads = tt;
+                      effect =
+                          record {
+                            passes = passes;
+                            ready = ready;
+                            begins = begins;
+                            before = before;
+                            still = still;
+                            sent = ys;
+                            last = y;
+                            paced = paced_of sends;
+                            idle = quiet;
+                            sends = step.event;
+                            beyond = over;
+                            polls = stop;
+                            counted = sym (length-append ys (y ∷ []) ∙ ap (λ (x : ℕ). x + 1) count);
+                            accepted =
+                                subst (λ (x : List ℕ). Goes (m f).shape (protected_at (m f)) (m f).image (ys ++ y ∷ []) x) (sym (polls-image limit still g stop))
+                                (both.goes i);
+                            plan = cycles_of fresh list;
+                            cost = cost;
+                            least = plan.0;
+                            first = take-map (step_cycle fresh) (k + 1) list ∙ (ap (cycles_of fresh) split ∙ map-append (step_cycle fresh) (take k list) (s ∷ []));
+                            room = plan.1;
+                            filled = filled;
+                          };
+                      protected = λ _. (λ z. absurd z, λ nothing. nothing (cycles_of fresh list) plan.0.goes);
+                      cause = tt;
+                    };
+                agrees = λ ref a. record { image = tt; closed = shut ∙ a.closed };
+              }
 
-    carried_owed : (n : ℕ) (f idle g : Fence P) (r : Result (ℕ × ℕ) WriteFault) → Passes (m f) address (length bytes) limit → fence.intact f → Polls fence n f idle
+    -- waiting and planning first, and then steps
+    did_after : (n k : ℕ) (f idle ready g : Fence P) (fresh : List ℕ) (list : List Step) → Polls fence n f idle → LookedBy fence k idle ready
+        → Sends fence fresh limit ready list g → Did fence [] (cycles_of fresh list) f g
+    did_after n k f idle ready g fresh list p l sends =
+        let ys = cycles_of fresh list in
+        did_join fence stay join [] [] ys f idle g (did_polls fence stay join [] n f idle p)
+        (did_join fence stay join [] [] ys idle ready g (did_looked fence stay join [] k idle ready l)
+        (did_over fence stay join fresh [] ys ready g (sends_did fence stay join fresh sends)))
+
+    carried_owed : (f idle g : Fence P) (r : Result (ℕ × ℕ) WriteFault) → Passes (m f) address (length bytes) limit → fence.intact f → Polls fence (m f).due f idle
         → SaysOf (m idle) (plan_over (m idle) address bytes steps room) → Carried fence limit address bytes b idle g r → Owes f (write_answer r) g
-    carried_owed n f idle g _ passes i p says (unplanned fault e d same left) =
-        unplanned_owed f g passes fault (writes.refused (row fault)) (says_before n f idle _ p says e) refl
-        (unaltered_did f g (after-polls n f idle g [] p d) (ap (λ (x : Meaning). x.image) same ∙ polls-image n f idle p))
-    carried_owed n f idle g _ passes i p says (written cost list fresh e filled d quiet) =
-        written_owed f g passes cost (cycles_of fresh list) (least_of f g passes cost list fresh (says_before n f idle _ p says e)) (after-polls n f idle g _ p d) quiet i
-    carried_owed n f idle g _ passes i p says (abandoned {before = before} {still = still} k s cost list fresh e filled lt split d quiet step over stop) =
-        abandoned_owed f g passes before still k s cost list fresh (least_of f g passes cost list fresh (says_before n f idle _ p says e)) lt
-        (after-polls n f idle before _ p d) quiet step over stop i
+    carried_owed f idle g r passes i p says carried = go r carried
+      where
+        begun : (ready : Fence P) → Planned fence idle ready → Begun fence f ready
+        begun ready l = record { idle = idle; waits = p; looks = subst (λ (x : Meaning). LookedBy fence (3 * size x.shape) idle ready) p.leaves l }
+
+        quiet : (m idle).due ≡ 0
+        quiet = polls-idle fence stay join f idle p
+
+        made : (cost : ℕ × ℕ) (list : List Step) (fresh : List ℕ) → plan_over (m idle) address bytes steps room ≡ writes.planned cost list fresh → Made list fresh
+        made cost list fresh e = planned-made cost list fresh (m idle).shape (protected_at (m idle)) (m idle).image address bytes steps room e
+
+        go : (r : Result (ℕ × ℕ) WriteFault) → Carried fence limit address bytes b idle g r → Owes f (write_answer r) g
+        go _ (unplanned fault e look left) =
+            unplanned_owed f g passes fault (writes.refused (row fault)) (says_before (m f).due f idle _ p says e) refl
+            (look.asked.1.0 ∙ p.made.0) (ap (λ (x : Meaning). x.image) look.same ∙ polls-image (m f).due f idle p) (begun g look) left
+        go _ (written {ready = ready} cost list fresh e filled look sends) =
+            written_owed f g passes ready (begun ready look) cost list fresh i (plan_of f g passes cost list fresh (says_before (m f).due f idle _ p says e))
+            (made_filled b list fresh (made cost list fresh e) filled) (did_after (m f).due _ f idle ready g fresh list p look sends) sends
+            (sends-idle fence stay join (ap (λ (x : Meaning). x.due) look.same ∙ quiet) sends)
+        go _ (abandoned {ready = ready} {before = before} {still = still} k s cost list fresh e filled lt split look sends idle' step over stop) =
+            abandoned_owed f g passes ready (begun ready look) cost list fresh i (plan_of f g passes cost list fresh (says_before (m f).due f idle _ p says e))
+            (made_filled b list fresh (made cost list fresh e) filled) before still k s lt split
+            (did_after (m f).due _ f idle ready before fresh (take k list) p look sends) sends idle' step over stop
 
     pub write_owed : (f g : Fence P) (r : Result (ℕ × ℕ) WriteFault) → fence.intact f → Wrote fence limit address bytes b f g r → Owes f (write_answer r) g
     unfolding SaysOf
     write_owed f g _ i (no_limit off same left) =
-        refused_owed f g (Limit limit) (unaltered_same f g same) (λ p. absurd (both_ways _ off p.limited)) (refl, off)
+        refused_owed f g (Limit limit) (ap (λ (x : Fence P). x.closed) same) (ap (λ x. (m x).image) same) same left (λ p. absurd (both_ways _ off p.limited)) (refl, off)
     write_owed f g _ i (outside on past same left) =
-        refused_owed f g (Outside address) (unaltered_same f g same) (λ p. absurd (omega (arith, past, p.inside))) (refl, on, past)
+        refused_owed f g (Outside address) (ap (λ (x : Fence P). x.closed) same) (ap (λ x. (m x).image) same) same left (λ p. absurd (omega (arith, past, p.inside))) (refl, on, past)
     write_owed f g _ i (still-busy on inside due p left) =
-        refused_owed f g (StillBusy limit) (unaltered_did f g (did_polls fence stay join [] limit f g p) (polls-image limit f g p))
-        (λ q. absurd (omega (arith, due, q.waits))) (refl, on, inside, due)
+        refused_owed f g (StillBusy limit) p.made.0 (polls-image limit f g p) p left (λ q. absurd (omega (arith, due, q.waits))) (refl, on, inside, due)
     write_owed f g r i (waited {idle = idle} on inside due p says carried) =
-        carried_owed (m f).due f idle g r (record { limited = on; inside = inside; waits = due }) i p says (carried i)
+        carried_owed f idle g r (record { limited = on; inside = inside; waits = due }) i p says (carried i)
 
     pub write_keeps : (f g : Fence P) (r : Result (ℕ × ℕ) WriteFault) → fence.intact f → Wrote fence limit address bytes b f g r → fence.intact g
     write_keeps f g _ i (no_limit off same left) = subst fence.intact (sym same) i
@@ -213,6 +264,7 @@ module _ {P : Type 0} (part : Ghosts P)
     write_keeps f g r i (waited {idle = idle} on inside due p says carried) = go r (carried i)
       where
         go : (r : Result (ℕ × ℕ) WriteFault) → Carried fence limit address bytes b idle g r → fence.intact g
-        go _ (unplanned fault e d same left) = d.keeps (p.keeps i)
-        go _ (written cost list fresh e filled d quiet) = d.keeps (p.keeps i)
-        go _ (abandoned k s cost list fresh e filled lt split d quiet step over stop) = stop.keeps (step.keeps (d.keeps (p.keeps i)))
+        go _ (unplanned fault e look left) = look.keeps (p.keeps i)
+        go _ (written {ready = ready} cost list fresh e filled look sends) = (sends_did fence stay join fresh sends).keeps (look.keeps (p.keeps i))
+        go _ (abandoned k s cost list fresh e filled lt split look sends idle' step over stop) =
+            stop.keeps (step.keeps ((sends_did fence stay join fresh sends).keeps (look.keeps (p.keeps i))))

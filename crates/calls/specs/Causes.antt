@@ -1,14 +1,11 @@
 -- What has to hold of a part for a call to be refused, and for a write to be done or abandoned.
-use Rattle.std.specs.Prelude.{◌≡◌, ℕ, ◌+◌, ◌<◌, ◌≤◌, true, false, ◌⊎◌, List, [], ◌∷◌, ◌++◌, length, replicate, Some}
+use Rattle.std.specs.Prelude.{◌≡◌, ℕ, ◌+◌, ◌<◌, ◌≤◌, true, false, ◌⊎◌, List, length, Some}
 use Rattle.memory.specs.Shape.{size}
 use Rattle.memory.specs.Page.{put}
 use Rattle.memory.specs.Cycle.{Cycle, Goes}
 use Rattle.part.specs.declared.fault.PartFault.TheVariants as parts
-use Rattle.part.specs.declared.part.Part.{Ghosts}
-use Rattle.part.specs.Meaning.{Meaning, Event, carried, polled, cycles, protected_at}
+use Rattle.part.specs.Meaning.{Meaning, protected_at}
 use Rattle.least.specs.Barred.{LowestIs}
-use Rattle.least.specs.Cost.{spent}
-use Rattle.least.specs.Fewest.{fewest}
 use Rattle.least.specs.Theorems.{LeastBy}
 use Rattle.planner.specs.Running.{allowed}
 use Rattle.writing.specs.declared.fault.WriteFault.{WriteFault}
@@ -64,40 +61,3 @@ Cause m steps room (reading address n) refusal =
     ⊎ ((refusal ≡ Part parts.Busy) × (address + n ≤ size m.shape) × (0 < m.due))
 Cause m steps room (writing address bytes limit) (Part fault) = ⊥
 Cause m steps room (writing address bytes limit) (Write fault) = WriteCause m steps room address bytes limit fault
-
-module _ {F : Type 0} (part : Ghosts F) where
-  -- from f to g nothing was carried out, and the image stays
-  pub record Unaltered (f g : F) : Type 0 where
-    pub events : List Event
-    pub happened : part.trace f g events
-    pub none : cycles events ≡ []
-    pub image : (part.meaning g).image ≡ (part.meaning f).image
-
-  -- a done write: it leaves the image wanted and nothing due, its answer is the cost of the cycles that it sent, and every accepted
-  -- list that leads there costs at least that
-  pub record DoneWrite (address : ℕ) (bytes : List ℕ) (limit : ℕ) (cost : ℕ × ℕ) (f g : F) : Type 0 where
-    pub passes : Passes (part.meaning f) address (length bytes) limit
-    pub leaves : (part.meaning g).image ≡ wanted (part.meaning f) address bytes
-    pub idle : (part.meaning g).due ≡ 0
-    pub events : List Event
-    pub happened : part.trace f g events
-    pub accepted : Leads (part.meaning f) (cycles events) (wanted (part.meaning f) address bytes)
-    pub costs : spent fewest (cycles events) ≡ cost
-    pub least : (l : List Cycle) → Leads (part.meaning f) l (wanted (part.meaning f) address bytes) → fewest.leq cost (spent fewest l) ≡ true
-
-  -- an abandoned write: n cycles were sent, and after the last of them more polls were due than the limit; the limit's
-  -- polls were made, and the image is the one that these cycles leave
-  pub record AbandonedWrite (address : ℕ) (bytes : List ℕ) (limit n : ℕ) (f g : F) : Type 0 where
-    pub passes : Passes (part.meaning f) address (length bytes) limit
-    -- the fence before its last cycle, and just after it
-    pub before : F
-    pub still : F
-    pub events : List Event
-    pub last : Cycle
-    pub happened : part.trace f before events
-    pub idle : (part.meaning before).due ≡ 0
-    pub sent : part.trace before still (carried last ∷ [])
-    pub counted : n ≡ length (cycles events ++ last ∷ [])
-    pub beyond : limit < (part.meaning still).due
-    pub polled : part.trace still g (replicate limit polled)
-    pub accepted : Leads (part.meaning f) (cycles events ++ last ∷ []) (part.meaning g).image

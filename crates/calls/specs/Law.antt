@@ -1,16 +1,20 @@
--- THE LAW of one call to a fence, in four sentences, and that a refused call alters nothing.
-use Rattle.std.specs.Prelude.{◌≡◌, ℕ, List, length}
+-- THE LAW of one call to a fence: what holds of its answer, and what it leaves.
+use Rattle.std.specs.Prelude.{◌≡◌, ℕ, ◌+◌, ◌<◌, ◌≤◌, List, [], ◌∷◌, length}
+use Rattle.memory.specs.Shape.{size}
 use Rattle.memory.specs.Page.{block}
 use Rattle.part.specs.declared.part.Part.{Ghosts}
-use Rattle.part.specs.Meaning.{Meaning, Event}
+use Rattle.part.specs.Meaning.{Meaning, Event, asked}
 use Rattle.fence.specs.declared.fence.Fence.{Fence}
 use Rattle.fence.specs.Closed.{fenced}
+use Rattle.writing.specs.Wrote.{Buffers, Left}
+use Rattle.calls.specs.declared.call.Refusal.TheVariants.{Part, Write}
 use Rattle.calls.specs.declared.call.Answer.{Answer}
 use Rattle.calls.specs.declared.call.Answer.TheVariants.{Done, Written, Refused, Abandoned}
 use Rattle.calls.specs.Refusals.{row}
 use Rattle.calls.specs.Requests.{Request, closing, opening, reading, writing, outcome}
 use Rattle.calls.specs.Reference.{Reference, fed, Holds}
-use Rattle.calls.specs.Causes.{Cause, Passes, NothingLeads, wanted, Unaltered, DoneWrite, AbandonedWrite}
+use Rattle.calls.specs.Causes.{Cause, Passes, NothingLeads, wanted}
+use Rattle.calls.specs.Effects.{DoneWrite, AbandonedWrite, RefusedWrite}
 
 -- the call is refused as protected
 abbrev pub IsProtected : Answer → Type 0
@@ -37,21 +41,34 @@ module _ {P : Type 0} (part : Ghosts P) where
   ReadLaw ref (closing sector) held answer = Unit {0}
   ReadLaw ref (opening sector) held answer = Unit {0}
   ReadLaw ref (reading address n) held Done = Holds ref.image (λ image. held ≡ block address n image)
-  ReadLaw ref (reading address n) held (Written cost) = ⊥
+  ReadLaw ref (reading address n) held (Written cost) = Unit {0}
   ReadLaw ref (reading address n) held (Refused refusal) = Unit {0}
-  ReadLaw ref (reading address n) held (Abandoned cycles) = ⊥
+  ReadLaw ref (reading address n) held (Abandoned cycles) = Unit {0}
   ReadLaw ref (writing address bytes limit) held answer = Unit {0}
 
-  -- a done write leaves what it wanted at the least cost, and answers what it sent; an abandoned one tells how far it came;
-  -- nothing else alters the image
-  abbrev pub EffectLaw : Fence P → Request → Answer → Fence P → Type 0
-  EffectLaw f (closing sector) answer g = (g.part ≡ f.part)
-  EffectLaw f (opening sector) answer g = (g.part ≡ f.part)
-  EffectLaw f (reading address n) answer g = (meant g ≡ meant f) × Unaltered fencing f g
-  EffectLaw f (writing address bytes limit) Done g = ⊥
-  EffectLaw f (writing address bytes limit) (Written cost) g = DoneWrite fencing address bytes limit cost f g
-  EffectLaw f (writing address bytes limit) (Refused refusal) g = Unaltered fencing f g
-  EffectLaw f (writing address bytes limit) (Abandoned cycles) g = AbandonedWrite fencing address bytes limit cycles f g
+  -- what a call leaves of the fence, of its own buffer, and of the step list and the data buffer: a done close or open is of a
+  -- sector that is there; a done read's buffer holds the image's bytes, which were asked for once; a done write leaves what it wanted
+  -- at the least cost, and answers what it sent; an abandoned one tells how far it came; a refused call leaves what it may
+  abbrev pub EffectLaw : Buffers → Fence P → Request → List ℕ → Answer → Fence P → Type 0
+  EffectLaw b f (closing sector) held Done g = (sector < (meant f).shape.sectors) × (g.part ≡ f.part) × Left b
+  EffectLaw b f (closing sector) held (Written cost) g = ⊥
+  EffectLaw b f (closing sector) held (Refused refusal) g = (g.part ≡ f.part) × Left b
+  EffectLaw b f (closing sector) held (Abandoned cycles) g = ⊥
+  EffectLaw b f (opening sector) held Done g = (sector < (meant f).shape.sectors) × (g.part ≡ f.part) × Left b
+  EffectLaw b f (opening sector) held (Written cost) g = ⊥
+  EffectLaw b f (opening sector) held (Refused refusal) g = (g.part ≡ f.part) × Left b
+  EffectLaw b f (opening sector) held (Abandoned cycles) g = ⊥
+  EffectLaw b f (reading address n) held Done g =
+      (address + n ≤ size (meant f).shape) × ((meant f).due ≡ 0) × (held ≡ block address n (meant f).image)
+      × (meant g ≡ meant f) × Traced f g (asked n ∷ []) × Left b
+  EffectLaw b f (reading address n) held (Written cost) g = ⊥
+  EffectLaw b f (reading address n) held (Refused refusal) g = (meant g ≡ meant f) × Traced f g [] × Left b
+  EffectLaw b f (reading address n) held (Abandoned cycles) g = ⊥
+  EffectLaw b f (writing address bytes limit) held Done g = ⊥
+  EffectLaw b f (writing address bytes limit) held (Written cost) g = DoneWrite fencing address bytes limit b cost f g
+  EffectLaw b f (writing address bytes limit) held (Refused (Part fault)) g = ⊥
+  EffectLaw b f (writing address bytes limit) held (Refused (Write fault)) g = RefusedWrite fencing fault f g × Left b
+  EffectLaw b f (writing address bytes limit) held (Abandoned cycles) g = AbandonedWrite fencing address bytes limit b cycles f g
 
   -- a write that passes the checks before protection is refused as protected exactly when nothing leads to what it wants
   abbrev pub ProtectedLaw : Fence P → Request → Answer → Type 0
@@ -70,9 +87,10 @@ module _ {P : Type 0} (part : Ghosts P) where
   CauseLaw steps room f request (Refused refusal) = Cause (meant f) steps room request refusal
   CauseLaw steps room f request (Abandoned cycles) = Unit {0}
 
-  pub record Law (steps room : ℕ) (ref : Reference) (f : Fence P) (request : Request) (held : List ℕ) (answer : Answer) (g : Fence P) : Type 0 where
+  -- of a call that leaves its buffer as `held`, and the step list and the data buffer as the second half of `b` says
+  pub record Law (b : Buffers) (ref : Reference) (f : Fence P) (request : Request) (held : List ℕ) (answer : Answer) (g : Fence P) : Type 0 where
     pub closed : g.closed ≡ (fed ref request (outcome answer)).closed
     pub reads : ReadLaw ref request held answer
-    pub effect : EffectLaw f request answer g
+    pub effect : EffectLaw b f request held answer g
     pub protected : ProtectedLaw f request answer
-    pub cause : CauseLaw steps room f request answer
+    pub cause : CauseLaw (length b.steps) (length b.sent) f request answer

@@ -2,5 +2,6 @@ pub mod Refusals
 pub mod Requests
 pub mod Reference
 pub mod Causes
+pub mod Effects
 pub mod Law
 pub mod History

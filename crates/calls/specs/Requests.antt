@@ -1,5 +1,5 @@
--- What a call asks, and a record of calls beside the calls that were handed in.
-use Rattle.std.specs.Prelude.{◌≡◌, ℕ, List, [], ◌∷◌, vec_items, vec_len}
+-- What a call asks, and a record of calls before they were made and after.
+use Rattle.std.specs.Prelude.{◌≡◌, ℕ, List, [], ◌∷◌, Some, vec_items, vec_len}
 use Rattle.calls.specs.declared.call.Call.{Call}
 use Rattle.calls.specs.declared.call.Call.TheVariants.{Close, Open, Read, Write}
 use Rattle.calls.specs.declared.call.Answer.{Answer}
@@ -39,17 +39,20 @@ outcome (Written cost) = done
 outcome (Refused refusal) = refused
 outcome (Abandoned cycles) = abandoned
 
--- a call as it was left, and its answer
-abbrev pub entry : Call → Answer → Entry
-entry call answer = record { call = call; answer = answer }
+-- a call as it was handed in and as it was left with this answer: only a done read's buffer is another
+pub record Made (before after : Call) (answer : Answer) : Type 0 where
+  pub same : asks after ≡ asks before
+  pub unread : outcome answer ≡ refused → buffer after ≡ buffer before
 
--- the call that was handed in: only a done read's buffer is another
-pub record Recorded (call : Call) (e : Entry) : Type 0 where
-  pub same : asks e.call ≡ asks call
-  pub unread : outcome e.answer ≡ refused → buffer e.call ≡ buffer call
+-- an entry of the record before its call was made and after
+pub record Recorded (before after : Entry) : Type 0 where
+  pub answer : Answer
+  pub answered : after.answer ≡ Some answer
+  pub made : Made before.call after.call answer
 
--- the record has the calls in their order, and the rest is still to be made
-abbrev pub Records : List Call → List Entry → List Call → Type 0
-Records calls [] rest = calls ≡ rest
-Records [] (e ∷ es) rest = ⊥
-Records (call ∷ calls) (e ∷ es) rest = Recorded call e × Records calls es rest
+-- each entry of the record, in their order
+abbrev pub Records : List Entry → List Entry → Type 0
+Records [] [] = Unit {0}
+Records [] (a ∷ after) = ⊥
+Records (b ∷ before) [] = ⊥
+Records (b ∷ before) (a ∷ after) = Recorded b a × Records before after

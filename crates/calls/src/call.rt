@@ -1,5 +1,5 @@
 // The calls that are made to a fence, and what comes of them.
-ghost use Rattle.std.specs.Prelude.{◌≡◌};
+ghost use Rattle.std.specs.Prelude.{◌≡◌, None};
 ghost use Rattle.calls.specs.Refusals.{part_answer, write_answer};
 
 use least::cost::Cost;
@@ -71,9 +71,19 @@ impl From<Result<Cost, WriteFault>> for Answer {
     }
 }
 
-// A call as it was handed in, but that a done read's buffer is filled, and its answer.
+// A call and, once it was made, its answer.
 #[derive(PartialEq, Eq, Debug, Drop)]
 pub struct Entry {
     pub call: Call,
-    pub answer: Answer,
+    pub answer: Option<Answer>,
+}
+
+impl Entry {
+    // A call that is still to be made.
+    pub fn new(call: Call) -> Entry
+        ensures call { result.call ≡ call }
+        ensures answer { result.answer ≡ None }
+    {
+        Entry { call, answer: None }
+    }
 }

@@ -1,7 +1,7 @@
 // One call made to a fence.
-ghost use Rattle.std.specs.Prelude.{◌≡◌, length};
-ghost use Rattle.calls.specs.Requests.{Recorded, entry};
-ghost use Rattle.calls.specs.History.{Follows};
+ghost use Rattle.std.specs.Prelude.{◌≡◌};
+ghost use Rattle.calls.specs.Requests.{Made};
+ghost use Rattle.calls.specs.History.{Follows, state};
 
 use crate::call::{Answer, Call};
 use fence::fence::Fence;
@@ -16,8 +16,8 @@ pub(crate) fn make<P: Part>(
     steps: &mut [Step],
     data: &mut [u8],
 ) -> Answer
-    ensures recorded { Recorded call.old (entry call.new result) }
-    ensures follows { P.Part.intact fence.old.part → Follows P.Part (length steps.old) (length «data».old) fence.old (entry call.new result) fence.new }
+    ensures made { Made call.old call.new result }
+    ensures follows { P.Part.intact fence.old.part → Follows P.Part (state fence.old steps.old «data».old) call.new result (state fence.new steps.new «data».new) }
     ensures intact { P.Part.intact fence.old.part → P.Part.intact fence.new.part }
 {
     match call {

@@ -1,5 +1,5 @@
 -- The line that is shown for a call and what came of it.
-use Rattle.std.specs.Prelude.{ℕ, List, [], ◌∷◌, ◌++◌, vec_items, codes, decimal}
+use Rattle.std.specs.Prelude.{ℕ, List, [], ◌∷◌, ◌++◌, Some, None, Option, vec_items, codes, decimal}
 use Rattle.hex_text.specs.HexText.{spaced}
 use Rattle.memory.specs.Reports.{shown_row}
 use Rattle.writing.specs.declared.fault.WriteFault.TheVariants as writes
@@ -24,15 +24,20 @@ answer_text (Written cost) = codes "done " ++ (decimal cost.0 ++ (32 ∷ decimal
 answer_text (Refused refusal) = codes "refused " ++ shown_row (row refusal)
 answer_text (Abandoned cycles) = codes "abandoned " ++ shown_row (of_write.row (writes.Abandoned cycles))
 
+abbrev pub outcome_text : Option Answer → List ℕ
+outcome_text None = codes "not made"
+outcome_text (Some answer) = answer_text answer
+
 -- only a done read shows bytes
-abbrev pub read_text : Call → Answer → List ℕ
+abbrev pub read_text : Call → Option Answer → List ℕ
 read_text (Close sector) answer = []
 read_text (Open sector) answer = []
-read_text (Read address into) Done = spaced (vec_items into)
-read_text (Read address into) (Written cost) = []
-read_text (Read address into) (Refused refusal) = []
-read_text (Read address into) (Abandoned cycles) = []
+read_text (Read address into) None = []
+read_text (Read address into) (Some Done) = spaced (vec_items into)
+read_text (Read address into) (Some (Written cost)) = []
+read_text (Read address into) (Some (Refused refusal)) = []
+read_text (Read address into) (Some (Abandoned cycles)) = []
 read_text (Write address bytes limit) answer = []
 
 abbrev pub line_text : Entry → List ℕ
-line_text e = call_text e.call ++ (codes ": " ++ (answer_text e.answer ++ (read_text e.call e.answer ++ (10 ∷ []))))
+line_text e = call_text e.call ++ (codes ": " ++ (outcome_text e.answer ++ (read_text e.call e.answer ++ (10 ∷ []))))

@@ -1,7 +1,7 @@
 // What came of a call, as a line of text.
 ghost use Rattle.std.specs.Prelude.{◌≡◌, Some};
 ghost use Rattle.hex_text.specs.HexText.{spaced};
-ghost use Rattle.script.specs.Showing.{answer_text, call_text, line_text, read_text};
+ghost use Rattle.script.specs.Showing.{answer_text, call_text, line_text, outcome_text, read_text};
 
 use calls::call::{Answer, Call, Entry};
 use hex_text::spaced::Spaced;
@@ -53,12 +53,30 @@ impl fmt::Display for Answered {
     }
 }
 
+// The same, if the call was made.
+#[derive(Clone, Copy)]
+struct Outcome(Option<Answer>);
+
+impl fmt::Display for Outcome {
+    ghost output = { λ s. Some (outcome_text s.0) };
+
+    fn fmt<W: fmt::Write>(&self, f: &mut fmt::Formatter<W>) -> fmt::Result {
+        match self.0 {
+            Some(answer) => {
+                let answered = Answered(answer);
+                write!(f, "{answered}")
+            }
+            None => write!(f, "not made"),
+        }
+    }
+}
+
 // The bytes that a done read shows; nothing else shows any.
 fn bytes_read(entry: &Entry) -> &[u8]
     ensures { spaced result.now ≡ read_text entry.now.call entry.now.answer }
 {
     match (&entry.call, entry.answer) {
-        (Call::Read { address: _, into }, Answer::Done) => into,
+        (Call::Read { address: _, into }, Some(Answer::Done)) => into,
         _ => &[],
     }
 }
@@ -72,8 +90,8 @@ impl fmt::Display for Shown<'_> {
 
     fn fmt<W: fmt::Write>(&self, f: &mut fmt::Formatter<W>) -> fmt::Result {
         let called = Called(&self.0.call);
-        let answered = Answered(self.0.answer);
+        let outcome = Outcome(self.0.answer);
         let bytes = Spaced(bytes_read(self.0));
-        writeln!(f, "{called}: {answered}{bytes}")
+        writeln!(f, "{called}: {outcome}{bytes}")
     }
 }

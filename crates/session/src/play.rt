@@ -1,7 +1,6 @@
 // A script played.
-use anyhow::anyhow;
-use attached::perform::{Unplayed, perform_attached};
-use calls::perform::Performed;
+use attached::perform::perform_attached;
+use calls::call::Entry;
 use least::step::Step;
 use part::limit::MOST_POLLS;
 use script::script::Script;
@@ -11,23 +10,15 @@ use std::alloc::Global;
 // Makes the calls of a script to a fence over a new chip, and answers a line for each.
 pub(crate) fn play(heap: Global, script: Script) -> anyhow::Result<String> {
     let chip = script.chip.make();
+    let mut entries: Vec<Entry> = script.calls.into_iter().map(Entry::new).collect(heap)?;
     let mut steps = vec![in heap; Step::UNUSED; script.room.steps]?;
     let mut data = vec![in heap; 0; script.room.bytes]?;
-    let played = perform_attached(heap, chip, MOST_POLLS, script.calls, &mut steps, &mut data);
-    let Performed { record, fence: _ } = played.map_err(|unplayed| match unplayed {
-        Unplayed::NoMemory {
-            driver: _,
-            calls: _,
-        } => anyhow!("no memory is left"),
+    let Ok(_fence) = perform_attached(chip, MOST_POLLS, &mut entries, &mut steps, &mut data) else {
         // a chip just made is idle
-        Unplayed::Unattached {
-            fault: _,
-            port: _,
-            calls: _,
-        } => unreachable!(),
-    })?;
+        unreachable!();
+    };
     let mut out = String::new(heap);
-    for entry in &record {
+    for entry in &entries {
         let line = Shown(entry);
         write!(out, "{line}")?;
     }

@@ -1,6 +1,6 @@
 // Lists of calls to a memory, picked at random.
 use crate::outcome::Lent;
-use calls::call::Call;
+use calls::call::{Call, Entry};
 use least::step::Step;
 use memory::geometry::Geometry;
 use memory::model::PAGE_BYTES;
@@ -16,7 +16,7 @@ const BYTES: usize = 2048;
 // A list of calls, and the buffers that are lent for it.
 #[derive(Drop)]
 pub(crate) struct List {
-    pub(crate) calls: Vec<Call>,
+    pub(crate) entries: Vec<Entry>,
     pub(crate) lent: Lent,
 }
 
@@ -125,13 +125,13 @@ impl Caller {
             0 => self.picker.pick(24),
             _ => BYTES,
         };
-        let mut calls = Vec::new(heap);
+        let mut entries = Vec::new(heap);
         // not a chain: what cannot be allocated ends it by `?`
         for _ in 0..count {
-            calls.push(self.call(heap)?)?;
+            entries.push(Entry::new(self.call(heap)?))?;
         }
         Ok(List {
-            calls,
+            entries,
             lent: Lent {
                 steps: vec![in heap; Step::UNUSED; steps]?,
                 data: vec![in heap; 0; bytes]?,

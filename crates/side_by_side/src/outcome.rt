@@ -26,7 +26,7 @@ impl Outcome {
     {
         self.record
             .iter()
-            .filter(|entry| is_such(entry.answer))
+            .filter(|entry| entry.answer.is_some_and(|answer| is_such(answer)))
             .count()
     }
 

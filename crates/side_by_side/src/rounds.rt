@@ -1,7 +1,7 @@
 // The rounds: which memories, and how many calls are made to them.
 use crate::lists::Caller;
 use crate::outcome::{Outcome, differences};
-use crate::side::{Made, Side};
+use crate::side::Side;
 use crate::slow::SlowImage;
 use anyhow::Context;
 use calls::call::Answer;
@@ -123,9 +123,8 @@ impl Round {
         let mut lent = Vec::new(heap);
         for _ in 0..self.lists {
             let mut list = caller.list(heap, CALLS)?;
-            let mut made = side.make(heap, list.calls, &mut list.lent.steps, &mut list.lent.data)?;
-            side = made.side;
-            record.append(&mut made.record)?;
+            side = side.make(&mut list.entries, &mut list.lent.steps, &mut list.lent.data)?;
+            record.append(&mut list.entries)?;
             lent.push(list.lent)?;
         }
         Ok(Outcome {

@@ -1,13 +1,14 @@
 -- A write to a part with nothing due, from what planning and running promise.
-use Rattle.std.proofs.Common.{◌≡◌, ℕ, ◌-◌, ◌<◌, true, List, [], ◌++◌, length, get_or, take, Ok, Err, Result, sym, refl, ap, ◌∙◌, subst, arith, take_at}
+use Rattle.std.proofs.Common.{◌≡◌, ℕ, ◌-◌, ◌<◌, true, List, [], ◌++◌, length, get_or, take, replicate, Ok, Err, Result, sym, refl, ap, ◌∙◌, subst, arith, take_at}
 use Rattle.std.proofs.lemmas.Bool.{both_ways, eq-eqb}
+use Rattle.std.proofs.lemmas.List.{append-nil}
 use Rattle.std.specs.Result.{IsErrAnd}
 use Rattle.std.proofs.lemmas.Result.{err_from_is_err_and}
 use Rattle.memory.specs.Page.{put}
 use Rattle.memory.specs.Cycle.{Cycle}
 use Rattle.part.specs.declared.part.Part.{Ghosts}
 use Rattle.part.specs.Meaning as of_part
-use Rattle.part.specs.Meaning.{Meaning, Event, Sound}
+use Rattle.part.specs.Meaning.{Meaning, Event, Sound, polled}
 use Rattle.part.specs.Verdict.{idle}
 use Rattle.least.specs.declared.step.Step.{Step}
 use Rattle.least.specs.Steps.{cycles_of}
@@ -18,8 +19,8 @@ use Rattle.planner.specs.declared.fault.PlanFault.{PlanFault}
 use Rattle.planner.specs.declared.fault.PlanFault.TheVariants as plans
 use Rattle.planner.specs.declared.run_fault.RunFault.{RunFault}
 use Rattle.planner.specs.Call.{Handed, plan_call, plan_row}
-use Rattle.planner.specs.Looking.{Looked}
-use Rattle.planner.specs.Waits.{Polls}
+use Rattle.planner.specs.Looking.{LookedBy}
+use Rattle.planner.specs.Waits.{Polls, waited_by}
 use Rattle.planner.specs.Running as running
 use Rattle.planner.specs.Running.{Ran, Sends, Did, allowed}
 use Rattle.planner.proofs.Calls.{call_idle}
@@ -27,8 +28,13 @@ use Rattle.planner.proofs.Doings.{did_polls, did_join, sends_did}
 use Rattle.writing.specs.declared.fault.WriteFault.{WriteFault}
 use Rattle.writing.specs.WriteRows.{row, unplanned_as, unrun_as}
 use Rattle.writing.specs.Wrote as wrote
-use Rattle.writing.specs.Wrote.{plan_over, Buffers, buffers, Filled, Carried, unplanned, abandoned}
+use Rattle.writing.specs.Wrote.{plan_over, Buffers, buffers, Filled, Planned, Carried, unplanned, abandoned}
 use Rattle.writing.proofs.Unrefused.{Made, planned-made, unrefused}
+
+waited_none : (m : Meaning) → waited_by 0 m ≡ m
+waited_none m =
+    let d : m.due - 0 ≡ m.due = omega arith in
+    ap {B = Meaning} (λ n. record { shape = m.shape; image = m.image; guarded = m.guarded; due = n }) d
 
 row_of : (f : PlanFault) → row (unplanned_as f) ≡ plan_row f
 row_of (plans.Outside a) = refl
@@ -54,8 +60,8 @@ module _ {P : Type 0} (part : Ghosts P)
           keeps = d.keeps;
         }
 
-    did_looked : (sent : List ℕ) (a b : P) → Looked part a b → Did part sent [] a b
-    did_looked sent a b l =
+    pub did_looked : (sent : List ℕ) (n : ℕ) (a b : P) → LookedBy part n a b → Did part sent [] a b
+    did_looked sent n a b l =
         record {
           events = l.asked.0;
           happened = l.asked.1;
@@ -66,10 +72,21 @@ module _ {P : Type 0} (part : Ghosts P)
           keeps = l.keeps;
         }
 
-    polls-idle : (a b : P) → Polls part (part.meaning a).due a b → (part.meaning b).due ≡ 0
+    pub polls-idle : (a b : P) → Polls part (part.meaning a).due a b → (part.meaning b).due ≡ 0
     polls-idle a b p = let e : (part.meaning b).due ≡ (part.meaning a).due - (part.meaning a).due = ap (λ m. m.due) p.leaves in omega arith
 
-    sends-idle : {sent : List ℕ} {limit : ℕ} {a b : P} {l : List Step} → (part.meaning a).due ≡ 0 → Sends part sent limit a l b → (part.meaning b).due ≡ 0
+    -- a wait with nothing due makes no poll
+    looked_on : (n : ℕ) (a b c : P) → (part.meaning b).due ≡ 0 → LookedBy part n a b → Polls part (part.meaning b).due b c → LookedBy part n a c
+    looked_on n a b c q l p =
+        let none : part.trace b c [] = subst (λ k. part.trace b c (replicate k polled)) q p.made in
+        let same : part.meaning c ≡ part.meaning b = p.leaves ∙ (ap (λ k. waited_by k (part.meaning b)) q ∙ waited_none (part.meaning b)) in
+        record {
+          same = same ∙ l.same;
+          keeps = λ i. p.keeps (l.keeps i);
+          asked = (l.asked.0, subst (part.trace a c) (append-nil l.asked.0) (joins a b c l.asked.0 [] l.asked.1 none), l.asked.2, l.asked.3, l.asked.4);
+        }
+
+    pub sends-idle : {sent : List ℕ} {limit : ℕ} {a b : P} {l : List Step} → (part.meaning a).due ≡ 0 → Sends part sent limit a l b → (part.meaning b).due ≡ 0
     sends-idle e running.none = e
     sends-idle e (running.more {c = c} {d = d} sends idle step due wait) = polls-idle c d wait
 
@@ -90,7 +107,7 @@ module _ {P : Type 0} (part : Ghosts P)
           → Handed (answer a) r steps steps' sent sent'
       handed a r q h = rw (call_idle (part.meaning a) address bytes (length steps) (length sent) q) at h
 
-      pub carried-unplanned : (a b : P) (fault : PlanFault) → (part.meaning a).due ≡ 0 → Looked part a b
+      pub carried-unplanned : (a b : P) (fault : PlanFault) → (part.meaning a).due ≡ 0 → Planned part a b
           → Handed (plan_call (part.meaning a) address bytes (length steps) (length sent)) (Err fault) steps steps' sent sent'
           → Here a b (Err (unplanned_as fault))
       carried-unplanned a b fault q look h = go (answer a) refl (handed a (Err fault) (eq-eqb _ _ q) h)
@@ -98,7 +115,7 @@ module _ {P : Type 0} (part : Ghosts P)
           go : (x : Answer) → answer a ≡ x → Handed x (Err fault) steps steps' sent sent' → Here a b (Err (unplanned_as fault))
           go (refused told) e t =
               let u : plan_row fault ≡ told = cc in
-              unplanned (unplanned_as fault) (e ∙ ap refused (sym (row_of fault ∙ u))) (did_looked [] a b look) look.same (t.1, t.2)
+              unplanned (unplanned_as fault) (e ∙ ap refused (sym (row_of fault ∙ u))) look (t.1, t.2)
           go (planned cost list fresh) e t = let z : ◌≡◌ {A = ℕ} 0 1 = cc in absurd (omega arith)
 
       -- a plan that was handed out
@@ -135,7 +152,7 @@ module _ {P : Type 0} (part : Ghosts P)
       ended cost (Err fault) = Err (unrun_as fault)
 
       module _ (a mid : P) (cost : ℕ × ℕ) (plan : Plan a cost) (q : (part.meaning a).due ≡ 0) (on' : allowed limit ≡ true) (i : part.intact a)
-          (look : Looked part a mid) where
+          (look : Planned part a mid) where
         abbrev list : List Step
         list = plan.list
 
@@ -152,7 +169,7 @@ module _ {P : Type 0} (part : Ghosts P)
         so_far : {x y : P} {l : List Step} → Polls part (part.meaning mid).due mid x → Sends part fresh limit x l y
             → Did part fresh (cycles_of fresh l) a y
         so_far {x = x} {y = y} {l = l} wait sends =
-            did_join part stays joins fresh [] (cycles_of fresh l) a mid y (did_looked fresh a mid look)
+            did_join part stays joins fresh [] (cycles_of fresh l) a mid y (did_looked fresh _ a mid look)
             (did_join part stays joins fresh [] (cycles_of fresh l) mid x y (did_polls part stays joins fresh _ mid x wait)
             (sends_did part stays joins fresh sends))
 
@@ -160,17 +177,17 @@ module _ {P : Type 0} (part : Ghosts P)
         carried_run to _ (running.no_limit off same) = absurd (both_ways _ off on')
         carried_run to _ (running.still-busy on due wait) = absurd (omega (arith, due, idle_mid))
         carried_run to _ (running.ran {a = x} on due wait sends) =
-            wrote.written cost list fresh plan.is plan.filled (did_over fresh [] _ a to (so_far wait sends)) (sends-idle (polls-idle mid x wait) sends)
+            wrote.written cost list fresh plan.is plan.filled (looked_on _ a mid x idle_mid look wait) sends
         carried_run to _ (running.refused {a = x} {b = y} on due wait k s fault lt split sends idle turned) =
             let d = so_far wait sends in
             absurd (unrefused (part.meaning a) (part.meaning y) list fresh (put address bytes (part.meaning a).image) k s fault made plan.least.goes lt split
             d.shape d.guarded idle (d.goes i).1 (turned.verdict (d.keeps i)))
         carried_run to _ (running.abandoned {a = x} {b = y} {c = still} on due wait k s lt split sends idle step over stop) =
-            abandoned k s cost list fresh plan.is plan.filled lt split (did_over fresh [] _ a y (so_far wait sends)) idle step over stop
+            abandoned k s cost list fresh plan.is plan.filled lt split (looked_on _ a mid x idle_mid look wait) sends idle step over stop
 
       -- a plan that was handed out, and the run of the buffers' fronts, as long as its cost says
       pub carried-ran : (a mid to : P) (cost : ℕ × ℕ) (n d : ℕ) (r : Result ℕ RunFault) → Sound (part.meaning a) → ((i : ℕ) → get_or bytes i 0 < 256)
-          → allowed limit ≡ true → (part.meaning a).due ≡ 0 → part.intact a → Looked part a mid
+          → allowed limit ≡ true → (part.meaning a).due ≡ 0 → part.intact a → Planned part a mid
           → Handed (plan_call (part.meaning a) address bytes (length steps) (length sent)) (Ok cost) steps steps' sent sent'
           → ◌≡◌ {A = ℕ × ℕ} (n, d) cost → Ran part (take d sent') limit (take n steps') mid to r → Here a to (ended cost r)
       carried-ran a mid to cost n d r S small on' q i look h e x =

@@ -5,7 +5,7 @@ use Rattle.calls.proofs.make.make.Goals as goal
 -- the write, of the bytes that were lent, is one of the bytes handed in
 pub returns-in-Write-clause-follows : goal.returns-in-Write-clause-follows
 returns-in-Write-clause-follows g c = λ i.
-    owed_follows _ _ _ _ _ _ _ _ c.from-in-Write.ensures
+    owed_follows _ _ _ _ _ _ c.from-in-Write.ensures
     (write_owed _ g.met.P.Part.stays g.met.P.Part.joins _ _ _ _ _ _ _ i (rw c.deref.ensures.value at c.write.ensures) _)
 
 pub returns-in-Write-clause-intact : goal.returns-in-Write-clause-intact
