@@ -56,7 +56,7 @@ impl Port for BenchChip {
         LONGEST
     }
 
-    // The trait's clauses and one more, `bench`: bit 1 shows 0 while busy.
+    // The trait's clauses, without `longest`, which is a constant here, and one more, `bench`: bit 1 shows 0 while busy.
     fn exchange(&mut self, sent: &[u8], back: &mut [u8]) -> Result<(), PortFault>
         ensures result { result ≡ verdict 320 (frame sent.now (length back.old)) }
         ensures back { back.new ≡ (if is_ok result then answer (slice_index back.new 0) (chip_of self.old) (frame sent.now (length back.old)) else back.old) }
