@@ -1,4 +1,4 @@
--- What is promised of calls to a fence over a driver that was just attached: nothing is assumed of it any more.
+-- What is promised of calls to a fence over a driver that was just attached.
 use Rattle.std.specs.Prelude.{◌≡◌, ℕ, List, replicate, Some, None}
 use Rattle.port.specs.declared.port.Port.{Ghosts}
 use Rattle.part.specs.declared.part.Part as of_part
@@ -17,7 +17,7 @@ use Rattle.calls.specs.History.{Kept, State}
 module _ {P : Type 0} (ports : Ghosts P) where
   -- a driver of the port, as a part
   abbrev pub driving : of_part.Ghosts (Driver P ports)
-  driving = record { meaning = driver_meaning ports; trace = DriverTrace ports; intact = λ _. Unit {0} }
+  driving = record { meaning = driver_meaning ports; trace = DriverTrace ports }
 
   -- a driver attached to the port, with nothing due, and the calls made to a new fence over it
   pub record Played (limit : ℕ) (port : P) (steps : List Step) (sent : List ℕ) (before after : List Entry) (s : State (Driver P ports)) : Type 0 where

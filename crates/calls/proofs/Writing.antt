@@ -134,12 +134,12 @@ module _ {P : Type 0} (part : Ghosts P)
           let c = ap (λ (x : ℕ × ℕ). x.0) counts in
           let d = ap (λ (x : ℕ × ℕ). x.1) counts in (least, (omega arith, omega arith))
 
-      module _ (ready : Fence P) (begins : Begun fence f ready) (cost : ℕ × ℕ) (list : List Step) (fresh : List ℕ) (i : fence.intact f)
+      module _ (ready : Fence P) (begins : Begun fence f ready) (cost : ℕ × ℕ) (list : List Step) (fresh : List ℕ)
           (plan : Least f (cycles_of fresh list) cost × Roomy b cost) (filled : Filled b (steps_of (cycles_of fresh list)) (data_of (cycles_of fresh list)))
         where
           written_owed : Did fence [] (cycles_of fresh list) f g → Sends fence fresh limit ready list g → (m g).due ≡ 0 → Owes f (answers.Written cost) g
           written_owed d sends quiet held =
-              let leaves : (m g).image ≡ wanted (m f) address bytes = sym (d.goes i).1 ∙ plan.0.goes.1 in
+              let leaves : (m g).image ≡ wanted (m f) address bytes = sym d.goes.1 ∙ plan.0.goes.1 in
               record {
                 law = λ ref a.
                     record {
@@ -197,7 +197,7 @@ module _ {P : Type 0} (part : Ghosts P)
                             counted = sym (length-append ys (y ∷ []) ∙ ap (λ (x : ℕ). x + 1) count);
                             accepted =
                                 subst (λ (x : List ℕ). Goes (m f).shape (protected_at (m f)) (m f).image (ys ++ y ∷ []) x) (sym (polls-image limit still g stop))
-                                (both.goes i);
+                                both.goes;
                             plan = cycles_of fresh list;
                             cost = cost;
                             least = plan.0;
@@ -220,9 +220,9 @@ module _ {P : Type 0} (part : Ghosts P)
         (did_join fence stay join [] [] ys idle ready g (did_looked fence stay join [] k idle ready l)
         (did_over fence stay join fresh [] ys ready g (sends_did fence stay join fresh sends)))
 
-    carried_owed : (f idle g : Fence P) (r : Result (ℕ × ℕ) WriteFault) → Passes (m f) address (length bytes) limit → fence.intact f → Polls fence (m f).due f idle
+    carried_owed : (f idle g : Fence P) (r : Result (ℕ × ℕ) WriteFault) → Passes (m f) address (length bytes) limit → Polls fence (m f).due f idle
         → SaysOf (m idle) (plan_over (m idle) address bytes steps room) → Carried fence limit address bytes b idle g r → Owes f (write_answer r) g
-    carried_owed f idle g r passes i p says carried = go r carried
+    carried_owed f idle g r passes p says carried = go r carried
       where
         begun : (ready : Fence P) → Planned fence idle ready → Begun fence f ready
         begun ready l = record { idle = idle; waits = p; looks = subst (λ (x : Meaning). LookedBy fence (3 * size x.shape) idle ready) p.leaves l }
@@ -238,33 +238,21 @@ module _ {P : Type 0} (part : Ghosts P)
             unplanned_owed f g passes fault (writes.refused (row fault)) (says_before (m f).due f idle _ p says e) refl
             (look.asked.1.0 ∙ p.made.0) (ap (λ (x : Meaning). x.image) look.same ∙ polls-image (m f).due f idle p) (begun g look) left
         go _ (written {ready = ready} cost list fresh e filled look sends) =
-            written_owed f g passes ready (begun ready look) cost list fresh i (plan_of f g passes cost list fresh (says_before (m f).due f idle _ p says e))
+            written_owed f g passes ready (begun ready look) cost list fresh (plan_of f g passes cost list fresh (says_before (m f).due f idle _ p says e))
             (made_filled b list fresh (made cost list fresh e) filled) (did_after (m f).due _ f idle ready g fresh list p look sends) sends
             (sends-idle fence stay join (ap (λ (x : Meaning). x.due) look.same ∙ quiet) sends)
         go _ (abandoned {ready = ready} {before = before} {still = still} k s cost list fresh e filled lt split look sends idle' step over stop) =
-            abandoned_owed f g passes ready (begun ready look) cost list fresh i (plan_of f g passes cost list fresh (says_before (m f).due f idle _ p says e))
+            abandoned_owed f g passes ready (begun ready look) cost list fresh (plan_of f g passes cost list fresh (says_before (m f).due f idle _ p says e))
             (made_filled b list fresh (made cost list fresh e) filled) before still k s lt split
             (did_after (m f).due _ f idle ready before fresh (take k list) p look sends) sends idle' step over stop
 
-    pub write_owed : (f g : Fence P) (r : Result (ℕ × ℕ) WriteFault) → fence.intact f → Wrote fence limit address bytes b f g r → Owes f (write_answer r) g
+    pub write_owed : (f g : Fence P) (r : Result (ℕ × ℕ) WriteFault) → Wrote fence limit address bytes b f g r → Owes f (write_answer r) g
     unfolding SaysOf
-    write_owed f g _ i (no_limit off same left) =
+    write_owed f g _ (no_limit off same left) =
         refused_owed f g (Limit limit) (ap (λ (x : Fence P). x.closed) same) (ap (λ x. (m x).image) same) same left (λ p. absurd (both_ways _ off p.limited)) (refl, off)
-    write_owed f g _ i (outside on past same left) =
+    write_owed f g _ (outside on past same left) =
         refused_owed f g (Outside address) (ap (λ (x : Fence P). x.closed) same) (ap (λ x. (m x).image) same) same left (λ p. absurd (omega (arith, past, p.inside))) (refl, on, past)
-    write_owed f g _ i (still-busy on inside due p left) =
+    write_owed f g _ (still-busy on inside due p left) =
         refused_owed f g (StillBusy limit) p.made.0 (polls-image limit f g p) p left (λ q. absurd (omega (arith, due, q.waits))) (refl, on, inside, due)
-    write_owed f g r i (waited {idle = idle} on inside due p says carried) =
-        carried_owed f idle g r (record { limited = on; inside = inside; waits = due }) i p says (carried i)
-
-    pub write_keeps : (f g : Fence P) (r : Result (ℕ × ℕ) WriteFault) → fence.intact f → Wrote fence limit address bytes b f g r → fence.intact g
-    write_keeps f g _ i (no_limit off same left) = subst fence.intact (sym same) i
-    write_keeps f g _ i (outside on past same left) = subst fence.intact (sym same) i
-    write_keeps f g _ i (still-busy on inside due p left) = p.keeps i
-    write_keeps f g r i (waited {idle = idle} on inside due p says carried) = go r (carried i)
-      where
-        go : (r : Result (ℕ × ℕ) WriteFault) → Carried fence limit address bytes b idle g r → fence.intact g
-        go _ (unplanned fault e look left) = look.keeps (p.keeps i)
-        go _ (written {ready = ready} cost list fresh e filled look sends) = (sends_did fence stay join fresh sends).keeps (look.keeps (p.keeps i))
-        go _ (abandoned k s cost list fresh e filled lt split look sends idle' step over stop) =
-            stop.keeps (step.keeps ((sends_did fence stay join fresh sends).keeps (look.keeps (p.keeps i))))
+    write_owed f g r (waited {idle = idle} on inside due p says carried) =
+        carried_owed f idle g r (record { limited = on; inside = inside; waits = due }) p says carried

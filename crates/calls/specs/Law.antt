@@ -34,7 +34,7 @@ module _ {P : Type 0} (part : Ghosts P) where
 
   -- a fence over the part, as a part
   abbrev pub fencing : Ghosts (Fence P)
-  fencing = record { meaning = meant; trace = Traced; intact = λ f. part.intact f.part }
+  fencing = record { meaning = meant; trace = Traced }
 
   -- a done read's buffer holds its range of the reference's image, while there is one
   abbrev pub ReadLaw : Reference → Request → List ℕ → Answer → Type 0

@@ -17,8 +17,7 @@ pub(crate) fn make<P: Part>(
     data: &mut [u8],
 ) -> Answer
     ensures made { Made call.old call.new result }
-    ensures follows { P.Part.intact fence.old.part → Follows P.Part (state fence.old steps.old «data».old) call.new result (state fence.new steps.new «data».new) }
-    ensures intact { P.Part.intact fence.old.part → P.Part.intact fence.new.part }
+    ensures follows { Follows P.Part (state fence.old steps.old «data».old) call.new result (state fence.new steps.new «data».new) }
 {
     match call {
         Call::Close { sector } => Answer::from(fence.close(*sector)),

@@ -19,7 +19,7 @@ pub fn perform<P: Part>(
     data: &mut [u8],
 ) -> Fence<P>
     ensures records { Records entries.old entries.new }
-    ensures kept { P.Part.intact part → Kept P.Part part steps.old «data».old entries.new (state result steps.new «data».new) }
+    ensures kept { Kept P.Part part steps.old «data».old entries.new (state result steps.new «data».new) }
 {
     let mut fence = Fence::new(part);
     for entry in entries.iter_mut() {

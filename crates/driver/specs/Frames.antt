@@ -1,8 +1,9 @@
 -- The frames that a driver sends.
-use Rattle.std.specs.Prelude.{◌≡◌, ℕ, zero, suc, ◌+◌, ◌-◌, ◌*◌, ◌/◌, min, true, cond, List, [], ◌∷◌, ◌==◌}
+use Rattle.std.specs.Prelude.{◌≡◌, ℕ, zero, suc, ◌+◌, ◌-◌, ◌*◌, ◌/◌, min, Bool, true, cond, List, [], ◌∷◌, ◌++◌, Some, None, Option, ◌==◌}
 use Rattle.memory.specs.declared.kind.Kind.{Kind}
 use Rattle.memory.specs.declared.kind.Kind.TheVariants as of_kind
 use Rattle.memory.specs.Shape.{Shape, shaped}
+use Rattle.part.specs.declared.fault.PartFault.{PartFault}
 use Rattle.part.specs.Verdict.{inside, takes_length}
 use Rattle.port.specs.declared.instruction.Operation.TheVariants.{WriteEnable, ReadStatus, Identify, Read}
 use Rattle.port.specs.Build.{built}
@@ -42,6 +43,12 @@ looks room of_kind.Alter address = []
 looks room of_kind.Preset address = reads room (address / 64 * 64) 64
 looks room of_kind.SectorErase address = []
 looks room of_kind.BulkErase address = []
+
+-- the frames of a cycle: none where it is refused before its page is looked at; else those of the look, and, where it is done, write
+-- enable and the cycle's own
+abbrev pub cycle_frames : ℕ → Option PartFault → Bool → Kind → ℕ → List ℕ → List Frame
+cycle_frames room (Some fault) done kind address sent = []
+cycle_frames room None done kind address sent = looks room kind address ++ cond done (enable_frame ∷ cycle_frame kind address sent ∷ []) []
 
 -- the largest chip that three bytes of address reach
 abbrev pub largest : Shape

@@ -57,7 +57,6 @@ module _ {P : Type 0} (part : Ghosts P)
           shape = d.shape;
           guarded = d.guarded;
           goes = d.goes;
-          keeps = d.keeps;
         }
 
     pub did_looked : (sent : List ℕ) (n : ℕ) (a b : P) → LookedBy part n a b → Did part sent [] a b
@@ -68,8 +67,7 @@ module _ {P : Type 0} (part : Ghosts P)
           exactly = l.asked.2;
           shape = ap (λ m. m.shape) l.same;
           guarded = ap (λ m. m.guarded) l.same;
-          goes = λ i. (refl, sym (ap (λ m. m.image) l.same));
-          keeps = l.keeps;
+          goes = (refl, sym (ap (λ m. m.image) l.same));
         }
 
     pub polls-idle : (a b : P) → Polls part (part.meaning a).due a b → (part.meaning b).due ≡ 0
@@ -82,7 +80,6 @@ module _ {P : Type 0} (part : Ghosts P)
         let same : part.meaning c ≡ part.meaning b = p.leaves ∙ (ap (λ k. waited_by k (part.meaning b)) q ∙ waited_none (part.meaning b)) in
         record {
           same = same ∙ l.same;
-          keeps = λ i. p.keeps (l.keeps i);
           asked = (l.asked.0, subst (part.trace a c) (append-nil l.asked.0) (joins a b c l.asked.0 [] l.asked.1 none), l.asked.2, l.asked.3, l.asked.4);
         }
 
@@ -151,7 +148,7 @@ module _ {P : Type 0} (part : Ghosts P)
       ended cost (Ok n) = Ok cost
       ended cost (Err fault) = Err (unrun_as fault)
 
-      module _ (a mid : P) (cost : ℕ × ℕ) (plan : Plan a cost) (q : (part.meaning a).due ≡ 0) (on' : allowed limit ≡ true) (i : part.intact a)
+      module _ (a mid : P) (cost : ℕ × ℕ) (plan : Plan a cost) (q : (part.meaning a).due ≡ 0) (on' : allowed limit ≡ true)
           (look : Planned part a mid) where
         abbrev list : List Step
         list = plan.list
@@ -181,18 +178,18 @@ module _ {P : Type 0} (part : Ghosts P)
         carried_run to _ (running.refused {a = x} {b = y} on due wait k s fault lt split sends idle turned) =
             let d = so_far wait sends in
             absurd (unrefused (part.meaning a) (part.meaning y) list fresh (put address bytes (part.meaning a).image) k s fault made plan.least.goes lt split
-            d.shape d.guarded idle (d.goes i).1 (turned.verdict (d.keeps i)))
+            d.shape d.guarded idle d.goes.1 turned.verdict)
         carried_run to _ (running.abandoned {a = x} {b = y} {c = still} on due wait k s lt split sends idle step over stop) =
             abandoned k s cost list fresh plan.is plan.filled lt split (looked_on _ a mid x idle_mid look wait) sends idle step over stop
 
       -- a plan that was handed out, and the run of the buffers' fronts, as long as its cost says
       pub carried-ran : (a mid to : P) (cost : ℕ × ℕ) (n d : ℕ) (r : Result ℕ RunFault) → Sound (part.meaning a) → ((i : ℕ) → get_or bytes i 0 < 256)
-          → allowed limit ≡ true → (part.meaning a).due ≡ 0 → part.intact a → Planned part a mid
+          → allowed limit ≡ true → (part.meaning a).due ≡ 0 → Planned part a mid
           → Handed (plan_call (part.meaning a) address bytes (length steps) (length sent)) (Ok cost) steps steps' sent sent'
           → ◌≡◌ {A = ℕ × ℕ} (n, d) cost → Ran part (take d sent') limit (take n steps') mid to r → Here a to (ended cost r)
-      carried-ran a mid to cost n d r S small on' q i look h e x =
+      carried-ran a mid to cost n d r S small on' q look h e x =
           let plan = handed_plan a cost S small (eq-eqb _ _ q) h in
           let counts : ◌≡◌ {A = ℕ × ℕ} (n, d) (length plan.list, length plan.fresh) = e ∙ plan.counts in
           let list : take n steps' ≡ plan.list = ap (take n) plan.filled.0 ∙ take_at plan.list _ n (omega (arith, ap (λ (y : ℕ × ℕ). y.0) counts)) in
           let fresh : take d sent' ≡ plan.fresh = ap (take d) plan.filled.1 ∙ take_at plan.fresh _ d (omega (arith, ap (λ (y : ℕ × ℕ). y.1) counts)) in
-          carried_run a mid cost plan q on' i look to r (rw (list, fresh) at x)
+          carried_run a mid cost plan q on' look to r (rw (list, fresh) at x)

@@ -121,5 +121,5 @@ unrefused a b list fresh wanted k s fault made goes lt split shape guarded due l
 
     none : step_verdict b fresh s ≡ None
     none =
-        step-verdict b (clean_at b s.address) fresh s (held-lies s.kind (lies s fresh) (le-leb _ _ within))
+        step-verdict b fresh s (held-lies s.kind (lies s fresh) (le-leb _ _ within))
         ∙ none_of _ (accepting b s.kind s.address (block s.place s.length fresh) due ∙ here)

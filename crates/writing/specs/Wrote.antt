@@ -74,4 +74,4 @@ module _ {P : Type 0} (part : Ghosts P) where
           -- and what planning then answers is so
           → Says (part.meaning idle).shape (of_part.protected_at (part.meaning idle)) (part.meaning idle).image address bytes (length b.steps) (length b.sent)
           (plan_over (part.meaning idle) address bytes (length b.steps) (length b.sent))
-          → (part.intact from → Carried idle to r) → Wrote from to r
+          → Carried idle to r → Wrote from to r

@@ -27,7 +27,7 @@ fn carry_out<P: Part>(
     requires inside { address + length bytes.now ≤ size (P.Part.meaning part.old).shape }
     requires idle { (P.Part.meaning part.old).due ≡ 0 }
     requires byte { (i : ℕ) → slice_index bytes.now i < 256 }
-    ensures { P.Part.intact part.old → Carried P.Part limit address bytes.now (buffers steps.old steps.new «data».old «data».new) part.old part.new result }
+    ensures { Carried P.Part limit address bytes.now (buffers steps.old steps.new «data».old «data».new) part.old part.new result }
 {
     let cost = plan(part, address, bytes, steps, data)?;
     let (cycles, sent) = cost;

@@ -14,5 +14,5 @@ returns g c =
       idle = rw e.1 refl;
       image = ap (λ (x : Chip). x.image) e.2;
       records = p.records;
-      kept = p.kept tt;
+      kept = p.kept;
     }

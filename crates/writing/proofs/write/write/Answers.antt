@@ -25,4 +25,4 @@ returns g c =
     let n = g.P.Part.meaning c.wait.new.part in
     let says = writes_answered n.shape (protected_at n) n.image (g.met.P.Part.sound _).imaged c.args.address c.args.bytes.now
     (λ i. (c.type_inv.bytes i).fits) (length c.args.steps.now) (length c.args.data.now) in
-    waited (grind (arith, nat_tests)) (grind (arith, nat_tests)) p.0 p.1 says (λ i. c.carry_out.ensures (p.1.keeps i))
+    waited (grind (arith, nat_tests)) (grind (arith, nat_tests)) p.0 p.1 says c.carry_out.ensures

@@ -11,7 +11,7 @@ use Rattle.part.specs.declared.outline.Outline.{Outline}
 use Rattle.part.specs.Meaning.{carried}
 use Rattle.part.specs.Outline.{outlined, guarding}
 use Rattle.part.specs.Verdict.{refusal, inside, takes_length, presets}
-use Rattle.part.proofs.Refusals.{Passes, all_passed, unrefused}
+use Rattle.part.proofs.Refusals.{Passes, all_passed, refused, unrefused}
 use Rattle.driver.specs.Frames.{looks, enable_frame, cycle_frame}
 use Rattle.driver.specs.Driving.{Drives, Intact, seen}
 use Rattle.driver.specs.Sending.{sendable, looks_carry, looks-harmless, looks_no_status}
@@ -50,6 +50,10 @@ pub returns-in_err-check_cycle-clause-trace : goal.returns-in_err-check_cycle-cl
 returns-in_err-check_cycle-clause-trace g c =
     let p = err_from_is_err_and c.from_residual.result c.from_residual.ensures.1 in
     let s = c.args.self.now in rw p.1 ([], g.met.P.Port.stays s.port, drives_none s.outline (g.P.Port.chip s.port))
+
+pub returns-in_err-check_cycle-clause-frames : goal.returns-in_err-check_cycle-clause-frames
+returns-in_err-check_cycle-clause-frames g c =
+    let s = c.args.self.now in rw (refused _ _ c.in_err-check_cycle.ensures.value) (g.met.P.Port.stays s.port)
 
 pub returns-then-not-is_clean_for-clause-trace : goal.returns-then-not-is_clean_for-clause-trace
 returns-then-not-is_clean_for-clause-trace g c =
