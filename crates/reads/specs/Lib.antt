@@ -1,1 +1,2 @@
 pub mod CountingPartLemmas
+pub mod Costs

@@ -1,8 +1,11 @@
 // A part that counts the bytes asked of the part below it, and is that part in all else. Its trace tells its count.
-ghost use Rattle.std.specs.Prelude.{◌≡◌, ◌+◌, ◌*◌, ◌≤◌, min};
+ghost use Rattle.std.specs.Prelude.{◌≡◌, ◌+◌, ◌*◌, ◌≤◌, min, List, length};
 ghost use Rattle.memory.specs.Shape.{size};
+ghost use Rattle.part.specs.Meaning.{Event};
 ghost use Rattle.least.specs.Fewest.{largest};
+ghost use Rattle.planner.specs.Call.{plan_call};
 ghost use Rattle.planner.specs.Looking.{asked_bytes};
+ghost use Rattle.reads.specs.Costs.{cost_of};
 ghost use Rattle.reads.specs.CountingPartLemmas.{stayed, joined};
 ghost use Rattle.planner.proofs.Lookings.{asked_join};
 ghost use Rattle.std.proofs.Common.{rules};
@@ -78,7 +81,9 @@ pub(crate) fn plan_counted<P: Part>(
     steps: &mut [Step],
     data: &mut [u8],
 ) -> Asked
-    ensures { result.bytes ≤ 3 * size (P.Part.meaning part.old.inner).shape }
+    ensures asked { (es : List Event) × P.Part.trace part.old.inner part.new.inner es × (result.bytes ≡ asked_bytes es) }
+    ensures most { result.bytes ≤ 3 * size (P.Part.meaning part.old.inner).shape }
+    ensures cost { P.Part.intact part.old.inner → result.cost ≡ cost_of (plan_call (P.Part.meaning part.old.inner) address bytes.now (length steps.old) (length «data».old)) }
 {
     part.asked = 0;
     let cost = plan(part, address, bytes, steps, data).ok();
