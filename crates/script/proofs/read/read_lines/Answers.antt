@@ -1,9 +1,5 @@
-use Rattle.std.proofs.Common.{rules, ◌≡◌, ℕ, ◌+◌, ◌≤◌, length, arith}
-use Rattle.std.specs.Str.Lines.{lines}
-use Rattle.std.proofs.lemmas.Iterator.Consumers.{count_from_yields_List}
-use Rattle.std.proofs.lemmas.Iterator.Splits.{YieldsList-from_lines}
-use Rattle.script.specs.Lines.{line_ends}
-use Rattle.script.proofs.LineEnds.{ends_after, lines_few}
+use Rattle.std.proofs.Common.{rules, arith}
+use Rattle.script.proofs.LineEnds.{ends_after}
 use Rattle.script.proofs.read.read_lines.Goals as goal
 
 pub loop-number-preserved : goal.loop-number-preserved

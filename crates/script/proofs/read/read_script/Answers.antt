@@ -1,5 +1,4 @@
-use Rattle.std.proofs.Common.{rules, ◌+◌, ◌<◌, ◌≤◌, ◌∙◌, ap, arith}
-use Rattle.script.specs.Lines.{line_ends}
+use Rattle.std.proofs.Common.{◌∙◌, ap, arith}
 use Rattle.script.proofs.LineEnds.{of_line_in}
 use Rattle.script.proofs.read.read_script.Goals as goal
 
