@@ -1,4 +1,4 @@
--- The line ends of a text and its lines.
+-- Line ends before a place in a text, and after its first line.
 use Rattle.std.proofs.Common.{◌≡◌, ℕ, ◌+◌, ◌<◌, ◌≤◌, List, ◌∷◌, ◌++◌, length, take, drop, cond, nat_eq, encode_utf8, sym, ap, ◌∙◌, arith}
 use Rattle.std.specs.Str.Lines.{IsFirstLine}
 use Rattle.std.proofs.lemmas.Bool.{eqb-true}
