@@ -2,3 +2,4 @@ pub mod Faults
 pub mod Limits
 pub mod Spelling
 pub mod Showing
+pub mod Lines

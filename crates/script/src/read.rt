@@ -1,6 +1,8 @@
 // A script read from text.
 ghost use Rattle.std.specs.Prelude.{◌≡◌, ◌+◌, ◌<◌, ◌≤◌, length, IfErr, IsErrAnd, OnOk, IsUtf8};
-ghost use Rattle.script.specs.declared.fault.Fault.TheVariants.{Long};
+ghost use Rattle.std.specs.Str.Lossy.{utf8_valid_len};
+ghost use Rattle.script.specs.Lines.{line_ends, line_of};
+ghost use Rattle.script.specs.declared.fault.Fault.TheVariants.{Long, Text};
 
 use crate::fault::{Fault, ScriptFault};
 use crate::reading::Reading;
@@ -13,7 +15,7 @@ pub const MOST_TEXT: usize = 1048576;
 
 // The line that the byte at `at` is on, from 1.
 fn line_at(text: &[u8], at: usize) -> usize
-    ensures { (0 < result) × (result ≤ 1 + length text.now) }
+    ensures { result ≡ line_of at text.now }
 {
     1 + text.iter().take(at).filter(|b| **b == b'\n').count()
 }
@@ -26,7 +28,7 @@ fn take_line(heap: Global, reading: &mut Reading, line: &str) -> Result<(), Faul
 }
 
 fn read_lines(heap: Global, text: &str) -> Result<Script, ScriptFault>
-    ensures { IfErr result (λ e. (0 < e.line) × (e.line ≤ 1 + length text.now)) }
+    ensures { IfErr result (λ e. (0 < e.line) × (e.line ≤ 1 + line_ends text.now)) }
 {
     let mut reading = Reading::new(heap);
     for (number, line) in (1..).zip(text.lines()) {
@@ -38,9 +40,10 @@ fn read_lines(heap: Global, text: &str) -> Result<Script, ScriptFault>
 
 // The script, or the first line that is faulty. A script without a chip is faulty on its last line.
 pub fn read_script(heap: Global, text: &[u8]) -> Result<Script, ScriptFault>
-    ensures long { 1048576 < length text.now → IsErrAnd result (λ e. e.fault ≡ Long) }
+    ensures long { 1048576 < length text.now → IsErrAnd result (λ e. e ≡ record { line = line_of 1048576 text.now; fault = Long }) }
+    ensures not_text { length text.now ≤ 1048576 → ¬ (IsUtf8 text.now) → IsErrAnd result (λ e. e ≡ record { line = line_of (utf8_valid_len text.now) text.now; fault = Text }) }
     ensures text { OnOk result (IsUtf8 text.now) }
-    ensures line { IfErr result (λ e. (0 < e.line) × (e.line ≤ 1 + length text.now)) }
+    ensures line { IfErr result (λ e. (0 < e.line) × (e.line ≤ 1 + line_ends text.now)) }
 {
     if text.len() > MOST_TEXT {
         return Err(Fault::Long.on(line_at(text, MOST_TEXT)));

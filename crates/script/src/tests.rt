@@ -1,7 +1,8 @@
 // Faulty scripts and their messages, and how a script is taken.
-use crate::read::read_script;
+use crate::read::{MOST_TEXT, read_script};
 use calls::call::Call;
 use std::alloc::Global;
+use std::process::Abort;
 use std::test::Fail;
 
 // The message of a faulty script.
@@ -12,35 +13,142 @@ fn message(heap: Global, text: &[u8]) -> Result<String, Fail> {
     }
 }
 
-// Faulty scripts, and their messages.
-const FAULTY: [(&[u8], &str); 8] = [
+// Whether each faulty script has its message.
+fn are_told(rt: &impl Abort, heap: Global, faulty: &[(&[u8], &str)]) -> Result<(), Fail> {
+    for (text, wanted) in faulty {
+        assert_eq!(rt; message(heap, text)?.as_str(), *wanted);
+    }
+    Ok(())
+}
+
+// Commands that are out of their order, or none.
+const ORDER: [(&[u8], &str); 7] = [
     (b"", "line 1: the first command has to be chip"),
     (b"# no chip\n\n", "line 2: the first command has to be chip"),
     (b"close 1\n", "line 1: the first command has to be chip"),
-    (b"chip 0C 80 2\n", "line 1: no chip has this capacity byte"),
+    (b"chip 0B 80 2\nerase 1\n", "line 2: unknown command"),
+    (
+        b"chip 0B 80 2\n\nchip 0B 80 2\n",
+        "line 3: chip is given twice",
+    ),
+    (
+        b"chip 0B 80 2\nclose 1\nimage 0 00\n",
+        "line 3: image and room stand before the first call",
+    ),
+    (
+        b"chip 0B 80 2\nclose 1\nroom 1 1\n",
+        "line 3: image and room stand before the first call",
+    ),
+];
+
+#[test]
+fn commands_stand_in_their_order(rt: HostRuntime) -> Result<(), Fail> {
+    are_told(&rt, rt.alloc(), &ORDER)
+}
+
+// Commands with too few words, or too many.
+const WORDS: [(&[u8], &str); 8] = [
+    (
+        b"chip 0B 80\n",
+        "line 1: write it as: chip CAPACITY STATUS BUSY",
+    ),
+    (
+        b"chip 0B 80 2\nimage\n",
+        "line 2: write it as: image ADDRESS BYTES",
+    ),
+    (
+        b"chip 0B 80 2\nroom 1\n",
+        "line 2: write it as: room STEPS DATA",
+    ),
+    (b"chip 0B 80 2\nlimit\n", "line 2: write it as: limit POLLS"),
+    (
+        b"chip 0B 80 2\nclose 1 2\n",
+        "line 2: write it as: close SECTOR",
+    ),
+    (b"chip 0B 80 2\nopen\n", "line 2: write it as: open SECTOR"),
     (
         b"chip 0B 80 2\n\nread 0 # no length\n",
         "line 3: write it as: read ADDRESS LENGTH",
     ),
     (
-        b"chip 0B 80 2\nwrite 0 1\n",
-        "line 2: a byte is two hexadecimal digits",
+        b"chip 0B 80 2\nwrite\n",
+        "line 2: write it as: write ADDRESS BYTES",
     ),
+];
+
+#[test]
+fn commands_have_their_words(rt: HostRuntime) -> Result<(), Fail> {
+    are_told(&rt, rt.alloc(), &WORDS)
+}
+
+// Words that are no number or no byte, and chips that cannot be made of them.
+const VALUES: [(&[u8], &str); 6] = [
     (
         b"chip 0B 80 2\nread 0 +1\n",
         "line 2: a number is decimal digits",
     ),
     (
-        b"chip 0B 80 2\nimage 2047 00 00\n",
-        "line 2: the bytes end past the end of the chip",
+        b"chip 0B 80 2\nlimit 18446744073709551616\n",
+        "line 2: the number is too large",
+    ),
+    (
+        b"chip 0B 80 2\nwrite 0 1\n",
+        "line 2: a byte is two hexadecimal digits",
+    ),
+    (b"chip 0C 80 2\n", "line 1: no chip has this capacity byte"),
+    (
+        b"chip 0B 7C 2\n",
+        "line 1: a status byte has bit 7 set, and bits 1 and 0 clear",
+    ),
+    (
+        b"chip 0B 80 4097\n",
+        "line 1: a busy number is at most 4096",
     ),
 ];
 
 #[test]
-fn faulty_scripts_name_their_line(rt: HostRuntime) -> Result<(), Fail> {
-    for (text, wanted) in FAULTY {
-        assert_eq!(rt; message(rt.alloc(), text)?.as_str(), wanted);
-    }
+fn words_have_their_values(rt: HostRuntime) -> Result<(), Fail> {
+    are_told(&rt, rt.alloc(), &VALUES)
+}
+
+// More than there may be, one more each time.
+const BOUNDS: [(&[u8], &str); 5] = [
+    (
+        b"chip 0B 80 2\nimage 2047 00 00\n",
+        "line 2: the bytes end past the end of the chip",
+    ),
+    (
+        b"chip 0B 80 2\nread 0 16777217\n",
+        "line 2: more than 16777216 bytes in one command",
+    ),
+    (
+        b"chip 0B 80 2\nwrite 0 00 16777216*00\n",
+        "line 2: more than 16777216 bytes in one command",
+    ),
+    (
+        b"chip 0B 80 2\nroom 1048577 0\n",
+        "line 2: room is for at most 1048576 steps and 16777216 data bytes",
+    ),
+    (
+        b"chip 0B 80 2\nroom 0 16777217\n",
+        "line 2: room is for at most 1048576 steps and 16777216 data bytes",
+    ),
+];
+
+#[test]
+fn commands_keep_their_bounds(rt: HostRuntime) -> Result<(), Fail> {
+    are_told(&rt, rt.alloc(), &BOUNDS)
+}
+
+// A text that is too long is faulty where it passes that, whatever stands before.
+#[test]
+fn a_script_is_a_text(rt: HostRuntime) -> Result<(), Fail> {
+    let heap = rt.alloc();
+    let long = vec![in heap; b'\n'; MOST_TEXT + 1]?;
+    let wanted = "line 1048577: the script is longer than 1048576 bytes";
+    assert_eq!(rt; message(heap, &long)?.as_str(), wanted);
+    let wanted = "line 3: the script is not UTF-8 text";
+    assert_eq!(rt; message(heap, b"erase\n\n# \xFF\n\xFF")?.as_str(), wanted);
     Ok(())
 }
 

@@ -1,6 +1,6 @@
 // A bench chip with nothing in it.
-ghost use Rattle.std.specs.Prelude.{◌≡◌, replicate, Some, None, MatchResult};
-ghost use Rattle.memory.specs.Models.{shape_for};
+ghost use Rattle.std.specs.Prelude.{◌≡◌, replicate, true, is_some, Some, None, MatchResult};
+ghost use Rattle.memory.specs.Models.{lookup, models, shape_for};
 ghost use Rattle.memory.specs.Shape.{size};
 ghost use Rattle.port.specs.Bench.{chip_of, fresh, unmade};
 ghost use Rattle.trials.specs.declared.chip.ChipFault.TheVariants as fault;
@@ -37,7 +37,7 @@ impl From<Unmade<ChipMaking>> for ChipFault {
     }
 }
 
-// A chip of the model with this capacity byte that holds FFh everywhere.
+// A chip of the model with this capacity byte that holds FFh everywhere. No memory is asked for where there is no such model.
 pub fn blank_chip(
     heap: Global,
     capacity: u8,
@@ -48,7 +48,7 @@ pub fn blank_chip(
         (λ b. (unmade capacity (size (shape_for capacity)) status busy ≡ None) × (chip_of b ≡ fresh capacity (replicate (size (shape_for capacity)) 255) status) × (b.busy_number ≡ busy))
         (λ e. elim e [
           | fault.Making why ↦ unmade capacity (size (shape_for capacity)) status busy ≡ Some why
-          | fault.NoMemory ↦ Unit {0}
+          | fault.NoMemory ↦ is_some (lookup models capacity) ≡ true
         ]) }
 {
     let model = Model::find(capacity).ok_or(ChipFault::Making(ChipMaking::Geometry))?;

@@ -1,27 +1,37 @@
 // Numbers that look picked at random, and are the same at each run.
-ghost use Rattle.std.specs.Prelude.{◌≡◌, ◌+◌, ◌*◌, ◌/◌, ◌%◌, max};
+ghost use Rattle.std.specs.Prelude.{◌≡◌};
+ghost use Rattle.trials.specs.Sequence.{next, picked};
 
-// A linear congruential sequence: its modulus, 2 to the 31st, is a constant, and so are the factor and what is added.
-// The last number is all of its state.
+// A linear congruential sequence: the number that follows is FACTOR times the last and STEP more, modulo MODULUS.
+const MODULUS: usize = 1 << 31;
+
+const FACTOR: usize = 1103515245;
+
+const STEP: usize = 12345;
+
+// The lowest ten bits of a number in the sequence repeat too soon to be used.
+const LOW: usize = 1 << 10;
+
+// The last number of the sequence is all of its state.
 #[derive(Drop)]
 pub struct Picker {
     last: usize,
 }
 
 impl Picker {
-    // The row that follows a number.
+    // The sequence from the number that follows the seed.
     pub fn new(seed: usize) -> Picker
         ensures { result.last ≡ seed }
     {
         Picker { last: seed }
     }
 
-    // A number below n, or 0 where there is none. The low bits of the row repeat too soon to be used.
+    // A number below n, or 0 where there is none.
     pub fn pick(&mut self, n: usize) -> usize
-        ensures last { self.new.last ≡ (self.old.last % 2147483648 * 1103515245 + 12345) % 2147483648 }
-        ensures picked { result ≡ self.new.last / 1024 % max n 1 }
+        ensures last { self.new.last ≡ next self.old.last }
+        ensures picked { result ≡ picked self.new.last n }
     {
-        self.last = (self.last % 2147483648 * 1103515245 + 12345) % 2147483648;
-        self.last / 1024 % n.max(1)
+        self.last = (self.last % MODULUS * FACTOR + STEP) % MODULUS;
+        self.last / LOW % n.max(1)
     }
 }

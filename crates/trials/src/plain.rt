@@ -28,7 +28,7 @@ pub fn plain_image(
     bytes: Vec<u8>,
 ) -> Result<PlainImage, PlainFault>
     ensures { MatchResult result
-        (λ p. (unmade sectors pages status (vec_len bytes) ≡ None) × (plainly p ≡ fresh sectors pages status bytes.items) × (p.image.bytes ≡ bytes))
+        (λ p. (unmade sectors pages status (vec_len bytes) ≡ None) × (plainly p ≡ fresh sectors pages status bytes.items) × (p.status.bits ≡ status) × (p.image.bytes ≡ bytes))
         (λ e. unmade sectors pages status (vec_len bytes) ≡ Some e.0) }
 {
     Ok(PlainImage::new(sectors, pages, status, bytes)?)
