@@ -84,14 +84,6 @@ module _ (m : Shape) (prot : ℕ → Bool) (idle : Bool) (kind : Kind) (address 
       → refusal m prot idle clean kind address n ≡ Some (NotBlank address)
   soiled clean e t = refused_late clean e ∙ cond-false _ _ _ t
 
--- only a preset is refused for its page
-pub preset_only : (kind : Kind) (clean : Bool) → presets kind clean ≡ false → presets kind false ≡ false
-preset_only Program clean e = e
-preset_only Alter clean e = e
-preset_only Preset clean e = refl
-preset_only SectorErase clean e = e
-preset_only BulkErase clean e = e
-
 -- an outline refuses as the meaning does
 pub outlines_read : (o : Outline) (m : Meaning) (address n : ℕ) → Outlines o m → read_refusal (outlined o) (not o.busy) address n ≡ read_verdict m address n
 outlines_read o m address n e = ap₂ (λ s x. read_refusal s x address n) e.shape e.idle

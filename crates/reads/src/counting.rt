@@ -83,7 +83,7 @@ pub(crate) fn plan_counted<P: Part>(
 ) -> Asked
     ensures asked { (es : List Event) × P.Part.trace part.old.inner part.new.inner es × (result.bytes ≡ asked_bytes es) }
     ensures most { result.bytes ≤ 3 * size (P.Part.meaning part.old.inner).shape }
-    ensures cost { P.Part.intact part.old.inner → result.cost ≡ cost_of (plan_call (P.Part.meaning part.old.inner) address bytes.now (length steps.old) (length «data».old)) }
+    ensures cost { result.cost ≡ cost_of (plan_call (P.Part.meaning part.old.inner) address bytes.now (length steps.old) (length «data».old)) }
 {
     part.asked = 0;
     let cost = plan(part, address, bytes, steps, data).ok();

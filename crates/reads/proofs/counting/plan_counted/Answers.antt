@@ -18,4 +18,4 @@ returns-clause-most g c =
     omega (arith, look.1.1, look.4, size_is m sound, pages_most m sound)
 
 pub returns-clause-cost : goal.returns-clause-cost
-returns-clause-cost g c h = c.ok-cost.ensures.value ∙ cost_handed _ _ _ _ _ _ (c.plan.ensures.answer h)
+returns-clause-cost g c = c.ok-cost.ensures.value ∙ cost_handed _ _ _ _ _ _ c.plan.ensures.answer
