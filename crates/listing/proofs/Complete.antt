@@ -9,7 +9,7 @@ use Rattle.listing.specs.Grammar.{Unbroken, none, byte, LineText, noted, framed,
 use Rattle.listing.specs.Parts.{Spot, Exchange}
 use Rattle.listing.specs.Scan.{pair_of, on_pair, goes_on, at_end, at_count, at_mark, closing, pairs, inside, scan, size_of, spots_by}
 use Rattle.listing.proofs.Lined.{spots_note, spots_frame, spots_count}
-use Rattle.listing.proofs.Digits.{Leads, pair_read, pair_size, pair_left, pair_first, pair-spelled}
+use Rattle.listing.proofs.Digits.{Leads, pair_read, pair_size, pair_left, pair_first, pair-spelled, pair_past}
 use Rattle.listing.proofs.Sound.{begins}
 use Rattle.listing.proofs.Turns.{pairs_turn}
 
@@ -27,15 +27,12 @@ run told at s = at_end at s
 run_pair : {w : List ℕ} {v : ℕ} (at : ℕ) (s : List ℕ) → Pair w v → pairs at (w ++ s) ≡ run paired (at + 2) s
 run_pair {w} {v} at s p =
     let h : at + 3 ≡ at + 2 + 1 = omega arith in
-    let e : drop 3 (w ++ s) ≡ drop 1 s = third p in
+    let e : drop 3 (w ++ s) ≡ drop 1 s = pair_past p s in
     pairs_turn at (w ++ s)
     ∙ ap (λ o. on_pair o (Err at) (λ _. cond (goes_on (drop 2 (w ++ s))) (pairs (at + 3) (drop 3 (w ++ s))) (closing (at + 2) (drop 2 (w ++ s))))) (pair_read p s)
     ∙ ap (λ r. cond (goes_on r) (pairs (at + 3) (drop 3 (w ++ s))) (closing (at + 2) r)) (pair_left p s)
     ∙ ap (λ r. cond (goes_on s) (pairs (at + 3) r) (closing (at + 2) s)) e
     ∙ ap (λ n. cond (goes_on s) (pairs n (drop 1 s)) (closing (at + 2) s)) h
-  where
-    third : {u : List ℕ} {n : ℕ} → Pair u n → drop 3 (u ++ s) ≡ drop 1 s
-    third (pair h l a b) = refl
 
 run_step : {p q : Place} {w : List ℕ} (at : ℕ) (s : List ℕ) → Step p w q → run p at (w ++ s) ≡ run q (at + length w) s
 unfolding inside closing

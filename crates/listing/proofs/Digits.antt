@@ -29,6 +29,10 @@ pair_size (pair h l p q) = refl
 pub pair_left : {w : List ℕ} {v : ℕ} → Pair w v → (s : List ℕ) → drop 2 (w ++ s) ≡ s
 pair_left (pair h l p q) s = refl
 
+-- and what follows the byte after it
+pub pair_past : {w : List ℕ} {v : ℕ} → Pair w v → (s : List ℕ) → drop 3 (w ++ s) ≡ drop 1 s
+pair_past (pair h l p q) s = refl
+
 -- the first digit of a pair is no `;`, no `>` and no space, and no 0Ah
 pub pair_first : {w : List ℕ} {v : ℕ} → Pair w v → (s : List ℕ) → (48 ≤ get_or (w ++ s) 0 0) × (get_or (w ++ s) 0 0 ≡ 59 → ⊥) × (get_or (w ++ s) 0 0 ≡ 62 → ⊥)
 pair_first (pair h l p q) s = grind (arith, nat_tests)

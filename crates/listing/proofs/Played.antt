@@ -8,7 +8,7 @@ use Rattle.memory.specs.Cycle.{Cycle, program, alter, preset, sector_erase, bulk
 use Rattle.memory.specs.Image.{reaches}
 use Rattle.memory.specs.Models.{models, lookup}
 use Rattle.memory.proofs.Free.{free-protects}
-use Rattle.memory.proofs.Models.{page-bytes, known_range}
+use Rattle.memory.proofs.Models.{page-bytes, known_ranged, known_real}
 use Rattle.memory.proofs.Pages.{Real}
 use Rattle.memory.proofs.Cycles.{length-effect, fits_page_facts}
 use Rattle.memory.proofs.Sizes.{product_most}
@@ -36,14 +36,10 @@ prot c = protects c.status (shape c).sectors
 
 module _ (c : Chip) (F : Formed c) where
   ranged : (0 < (shape c).sectors) × ((shape c).sectors ≤ 128) × (0 < (shape c).pages) × ((shape c).pages ≤ 2048)
-  ranged =
-      let a = and_parts (ltb 0 (shape c).sectors) _ (known_range c.capacity F.known) in
-      let b = and_parts (leb (shape c).sectors 128) _ a.1 in
-      let d = and_parts (ltb 0 (shape c).pages) _ b.1 in
-      (ltb-true _ _ a.0, leb-true _ _ b.0, ltb-true _ _ d.0, leb-true _ _ d.1)
+  ranged = known_ranged c.capacity F.known
 
   real : Real (shape c)
-  real = let b = page-bytes c.capacity in record { pages = ranged.2; bytes = omega arith }
+  real = known_real c.capacity F.known
 
   -- three bytes of address are enough
   reached : (a : ℕ) → ltb a (size (shape c)) ≡ true → (a < 16777216) × (ltb a (length c.image) ≡ true)

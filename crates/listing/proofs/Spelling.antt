@@ -6,7 +6,7 @@ use Rattle.std.proofs.lemmas.Bool.{eqb-true, eq-eqb, ne_eqb, cases_eq, cases_lt}
 use Rattle.listing.specs.Hex.{Pair, pair, Pairs, one, more}
 use Rattle.listing.specs.Scan.{pair_of, on_pair}
 use Rattle.listing.specs.Values.{before, after, values, good, tallied, Spelled}
-use Rattle.listing.proofs.Digits.{pair_read, pair_left, pair-here, pair_alone}
+use Rattle.listing.proofs.Digits.{pair_read, pair_left, pair-here, pair_alone, pair_past}
 
 pub values_turn : (at : ℕ) (s : List ℕ) → values at s ≡ on_pair (pair_of s) (Err at) (λ v. after v (at + 2) (drop 2 s) (values (at + 3) (drop 3 s)))
 unfolding values pair_of
@@ -21,10 +21,7 @@ values-pair {w} {v} at s p =
     values_turn at (w ++ s)
     ∙ ap (λ o. on_pair o (Err at) (λ n. after n (at + 2) (drop 2 (w ++ s)) (values (at + 3) (drop 3 (w ++ s))))) (pair_read p s)
     ∙ ap (λ r. after v (at + 2) r (values (at + 3) (drop 3 (w ++ s)))) (pair_left p s)
-    ∙ ap (λ r. after v (at + 2) s (values (at + 3) r)) (third p)
-  where
-    third : {u : List ℕ} {n : ℕ} → Pair u n → drop 3 (u ++ s) ≡ drop 1 s
-    third (pair h l a b) = refl
+    ∙ ap (λ r. after v (at + 2) s (values (at + 3) r)) (pair_past p s)
 
 pub values-read : {w bs : List ℕ} (at : ℕ) → Pairs w bs → values at w ≡ Ok bs
 values-read {w} at (one p) = ap (values at) (sym (append-nil w)) ∙ values-pair at [] p

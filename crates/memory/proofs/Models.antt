@@ -1,9 +1,10 @@
 -- What holds of every known chip.
-use Rattle.std.proofs.Common.{◌≡◌, ℕ, Bool, true, false, ◌&&◌, eqb, ◌⊎◌, List, [], ◌∷◌, is_some, Some, None, Option, sym, refl, ◌∙◌, inl, inr}
-use Rattle.std.proofs.lemmas.Bool.{cases_Bool, and_parts, cond-true, cond-false, false≢true}
+use Rattle.std.proofs.Common.{◌≡◌, ℕ, Bool, true, false, ◌&&◌, eqb, ◌⊎◌, List, [], ◌∷◌, is_some, Some, None, Option, sym, refl, ◌∙◌, inl, inr, ◌<◌, ◌≤◌, ltb, leb, arith}
+use Rattle.std.proofs.lemmas.Bool.{cases_Bool, and_parts, ltb-true, leb-true, cond-true, cond-false, false≢true}
 use Rattle.std.proofs.lemmas.Option.{none-some}
 use Rattle.memory.specs.declared.model.Model.{Model}
 use Rattle.memory.specs.Image.{in_range}
+use Rattle.memory.proofs.Pages.{Real}
 use Rattle.memory.specs.Models.{models, lookup, shape_or, shape_for}
 
 abbrev pub each : (Model → Bool) → List Model → Bool
@@ -39,6 +40,18 @@ range_or : (o : Option Model) → ((m : Model) → o ≡ Some m → in_range m.g
 range_or None h t = absurd (false≢true t)
 range_or (Some m) h t = h m refl
 
--- a known chip has 1 to 128 sectors of 1 to 2,048 pages
-pub known_range : (c : ℕ) → is_some (lookup models c) ≡ true → in_range (shape_for c).sectors (shape_for c).pages ≡ true
+known_range : (c : ℕ) → is_some (lookup models c) ≡ true → in_range (shape_for c).sectors (shape_for c).pages ≡ true
 known_range c t = range_or (lookup models c) (λ m e. models_ranged c m e) t
+
+-- a known chip has 1 to 128 sectors of 1 to 2,048 pages
+pub known_ranged :
+    (c : ℕ) → is_some (lookup models c) ≡ true
+    → (0 < (shape_for c).sectors) × ((shape_for c).sectors ≤ 128) × (0 < (shape_for c).pages) × ((shape_for c).pages ≤ 2048)
+known_ranged c t =
+    let a = and_parts (ltb 0 (shape_for c).sectors) _ (known_range c t) in
+    let b = and_parts (leb (shape_for c).sectors 128) _ a.1 in
+    let d = and_parts (ltb 0 (shape_for c).pages) _ b.1 in
+    (ltb-true _ _ a.0, leb-true _ _ b.0, ltb-true _ _ d.0, leb-true _ _ d.1)
+
+pub known_real : (c : ℕ) → is_some (lookup models c) ≡ true → Real (shape_for c)
+known_real c t = let b = page-bytes c in record { pages = (known_ranged c t).2; bytes = omega arith }

@@ -1,5 +1,5 @@
 -- The machine's laws, one by one.
-use Rattle.std.proofs.Common.{◌≡◌, ℕ, zero, suc, ◌+◌, ◌/◌, ◌%◌, ◌<◌, Bool, true, false, cond, eqb, ltb, leb, ◌⊎◌, List, length, get_or, replicate, Some, None, Option, sym, refl, ap, ◌∙◌, subst, inl, inr, ⊎_elim, arith}
+use Rattle.std.proofs.Common.{◌≡◌, ℕ, zero, suc, ◌+◌, ◌/◌, ◌%◌, ◌<◌, Bool, true, false, cond, eqb, ltb, ◌⊎◌, List, length, get_or, replicate, Some, None, Option, sym, refl, ap, ◌∙◌, subst, inl, inr, ⊎_elim, arith}
 use lib.Bits.{bit_and}
 use Rattle.std.proofs.lemmas.Bool.{and_parts, both_ways, cond-true, cond-false, eqb-true, ne_eqb, ltb-true, not-true}
 use Rattle.std.proofs.lemmas.Option.{cond_some, none-some}
@@ -8,7 +8,8 @@ use Rattle.memory.specs.Protection.{protects}
 use Rattle.memory.specs.Cycle.{Cycle, program, alter, preset, sector_erase, bulk_erase, effect, replacing}
 use Rattle.memory.specs.Image.{rolled, reaches}
 use Rattle.memory.proofs.Loops.{rolled_more}
-use Rattle.memory.proofs.Models.{page-bytes, known_range}
+use Rattle.memory.proofs.Models.{known_real}
+use Rattle.memory.proofs.Pages.{Real}
 use Rattle.memory.proofs.Protected.{none_protected}
 use Rattle.memory.proofs.Off.{written_off, erased_off}
 use Rattle.port.specs.Chip.{Chip, Sound, shape}
@@ -101,19 +102,14 @@ heard-reaches busy size o y e = go (eqb busy 0) e
     go false e = absurd (not_polled o y e)
 
 module _ (c : Chip) (S : Sound c) where
-  some_bytes : 0 < (shape c).bytes
-  some_bytes = let e = page-bytes c.capacity in omega arith
-
-  some_pages : 0 < (shape c).pages
-  some_pages =
-      let r = known_range c.capacity S.known in
-      ltb-true 0 (shape c).pages (and_parts _ _ (and_parts (leb (shape c).sectors 128) _ (and_parts (ltb 0 (shape c).sectors) _ r).1).1).0
+  R : Real (shape c)
+  R = known_real c.capacity S.known
 
   elsewhere_by : (y : Cycle) → reaches (length c.image) y ≡ true → (i : ℕ) → (Within c y i → ⊥) → get_or (effect (shape c) y c.image) i 0 ≡ get_or c.image i 0
-  elsewhere_by (program a d) r i n = written_off (shape c) some_bytes some_pages c.image S.imaged.whole bit_and a d i (ltb-true _ _ r) n
-  elsewhere_by (alter a d) r i n = written_off (shape c) some_bytes some_pages c.image S.imaged.whole replacing a d i (ltb-true _ _ r) n
-  elsewhere_by (preset a d) r i n = written_off (shape c) some_bytes some_pages c.image S.imaged.whole bit_and a d i (ltb-true _ _ r) n
-  elsewhere_by (sector_erase a) r i n = erased_off (shape c) some_bytes some_pages c.image S.imaged.whole a i (ltb-true _ _ r) n
+  elsewhere_by (program a d) r i n = written_off (shape c) R.bytes R.pages c.image S.imaged.whole bit_and a d i (ltb-true _ _ r) n
+  elsewhere_by (alter a d) r i n = written_off (shape c) R.bytes R.pages c.image S.imaged.whole replacing a d i (ltb-true _ _ r) n
+  elsewhere_by (preset a d) r i n = written_off (shape c) R.bytes R.pages c.image S.imaged.whole bit_and a d i (ltb-true _ _ r) n
+  elsewhere_by (sector_erase a) r i n = erased_off (shape c) R.bytes R.pages c.image S.imaged.whole a i (ltb-true _ _ r) n
   elsewhere_by bulk_erase r i n = absurd (n tt)
 
   pub elsewhere : (k : ℕ) (f : Frame) (y : Cycle) → carried_by c f ≡ Some y → (i : ℕ) → (Within c y i → ⊥) → get_or (after k c f).image i 0 ≡ get_or c.image i 0

@@ -1,5 +1,4 @@
-use Rattle.std.proofs.Common.{◌≡◌, ℕ, ◌+◌, ◌*◌, ◌<◌, ◌≤◌, Bool, true, false, cond, not, List, sym, ap, ◌∙◌, subst, ap₂, arith}
-use Rattle.memory.proofs.Blocks.{below_end}
+use Rattle.std.proofs.Common.{◌≡◌, ℕ, ◌*◌, Bool, true, false, cond, not, List, sym, ap, ◌∙◌, ap₂, arith}
 use Rattle.part.specs.Meaning.{Meaning}
 use Rattle.least.specs.Cost.{lesser}
 use Rattle.least.specs.Fewest.{fewest}
@@ -10,9 +9,6 @@ use Rattle.planner.proofs.Askings.{on_and_off}
 use Rattle.planner.proofs.Lookings.{looked_join}
 use Rattle.planner.proofs.Surveys.{chose_first, chose_second}
 use Rattle.planner.proofs.choice.sector_cost.Goals as goal
-
-inside : (m : Meaning) (k p : ℕ) → p ≡ m.shape.pages → k < m.shape.sectors → k * p + p ≤ m.shape.sectors * m.shape.pages
-inside m k p e h = subst (λ x. k * x + x ≤ m.shape.sectors * m.shape.pages) (sym e) (below_end m.shape.pages k m.shape.sectors h)
 
 -- the choice, once both costs are known
 chosen :
