@@ -1,6 +1,5 @@
 // What a plan costs: cycles first, then data bytes.
-ghost use Rattle.std.specs.Prelude.{◌≡◌, not, ◌&&◌};
-ghost use Rattle.least.specs.Cost.{lesser};
+ghost use Rattle.std.specs.Prelude.{◌≡◌};
 ghost use Rattle.least.specs.Fewest.{fewest, capped};
 
 // (cycles, data bytes), in the order of pairs. A rule of the project: costs pass as such pairs, from what a page costs and the choice
@@ -23,28 +22,4 @@ pub fn added(a: Cost, b: Cost) -> Cost
     ensures { result ≡ capped (fewest.plus a b) }
 {
     (a.0.saturating_add(b.0), a.1.saturating_add(b.1))
-}
-
-// The next three decide of costs that are known whole, for callers that have them. The planner decides alike, and stops adding up
-// where the erase is no longer lower.
-
-// Whether a sector is erased before its pages are written: only where that is strictly lower.
-pub fn erases(keep: Cost, erase: Cost) -> bool
-    ensures { result ≡ not (fewest.leq keep erase) }
-{
-    erase < keep
-}
-
-// What the sector then costs.
-pub fn sector_cost(keep: Cost, erase: Cost) -> Cost
-    ensures { result ≡ lesser fewest keep erase }
-{
-    keep.min(erase)
-}
-
-// Whether the whole memory is erased first: only where no sector is protected and that is strictly lower.
-pub fn erases_all(free: bool, sectors: Cost, bulk: Cost) -> bool
-    ensures { result ≡ (free && not (fewest.leq sectors bulk)) }
-{
-    free && erases(sectors, bulk)
 }
