@@ -1,2 +1,2 @@
 pub mod Slowly
-pub mod Slowing
+pub mod Joins

@@ -23,3 +23,7 @@ pub data Played (n : ℕ) : Meaning → List Event → Meaning → Type 0 where
   cycle : {a b : Meaning} {y : Cycle} {es : List Event}
       → a.due ≡ 0 → accepts a.shape (protected_at a) y a.image ≡ true → Played n (done n a y) es b → Played n a (carried y ∷ es) b
   poll : {a b : Meaning} {es : List Event} → Played n (waited a) es b → Played n a (polled ∷ es) b
+
+-- what a slow image's trace says
+abbrev pub Slowed : SlowImage → SlowImage → List Event → Type 0
+Slowed a b l = Played a.busy_number (slowly a) l (slowly b) × (b.busy_number ≡ a.busy_number)

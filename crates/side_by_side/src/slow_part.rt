@@ -1,7 +1,7 @@
 // The slow image is a part.
 ghost use Rattle.std.specs.Prelude.{refl};
-ghost use Rattle.side_by_side.specs.Slowly.{none, slowly};
-ghost use Rattle.side_by_side.specs.Slowing.{Slowed, slow-sound, slowed-++};
+ghost use Rattle.side_by_side.specs.Slowly.{none, slowly, Slowed};
+ghost use Rattle.side_by_side.specs.Joins.{slow-sound, slowed-++};
 
 use crate::slow::SlowImage;
 use memory::geometry::Geometry;

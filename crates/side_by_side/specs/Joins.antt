@@ -1,4 +1,5 @@
--- Runs of events on a slow image, and that it is a part that can be.
+-- Runs of events on a slow image joined, and that it is a part that can be. These are lemmas; they stand here since the laws
+-- `sound` and `joins` of a slow image as a part are proved in src/, and src/ cites of its own crate the specs alone.
 use Rattle.std.specs.Prelude.{◌≡◌, ℕ, List, ◌++◌, length, refl}
 use Rattle.std.proofs.Common.{sym, subst, ◌∙◌}
 use Rattle.memory.specs.Shape.{size}
@@ -6,17 +7,13 @@ use Rattle.memory.specs.Image.{shape_of}
 use Rattle.part.specs.PlainLemmas.{length-guards}
 use Rattle.part.specs.Meaning.{Meaning, Event, Sound}
 use Rattle.side_by_side.specs.declared.slow.SlowImage.{SlowImage}
-use Rattle.side_by_side.specs.Slowly.{Played, none, read, cycle, poll, slowly}
+use Rattle.side_by_side.specs.Slowly.{Played, Slowed, none, read, cycle, poll, slowly}
 
 played-++ : {n : ℕ} {a b c : Meaning} {l m : List Event} → Played n a l b → Played n b m c → Played n a (l ++ m) c
 played-++ none q = q
 played-++ (read p) q = read (played-++ p q)
 played-++ (cycle d t p) q = cycle d t (played-++ p q)
 played-++ (poll p) q = poll (played-++ p q)
-
--- what a slow image's trace says
-abbrev pub Slowed : SlowImage → SlowImage → List Event → Type 0
-Slowed a b l = Played a.busy_number (slowly a) l (slowly b) × (b.busy_number ≡ a.busy_number)
 
 pub slowed-++ : (a b c : SlowImage) (l m : List Event) → Slowed a b l → Slowed b c m → Slowed a c (l ++ m)
 slowed-++ a b c l m p q =
