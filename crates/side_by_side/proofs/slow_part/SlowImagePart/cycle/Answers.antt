@@ -9,4 +9,4 @@ returns-in_err-cycle-clause-trace c =
     rw p.1 (played_none _ _ _ (slowly_same c.args.self.now c.cycle.new.self (c.in_err-cycle.ensures.undone refl)), refl)
 
 pub returns-clause-trace : goal.returns-clause-trace
-returns-clause-trace c = (played_cycle c.args.self.now c.cycle.new.self _ c.in_ok-cycle.ensures.trace, refl)
+returns-clause-trace c = (played_cycle c.args.self.now c.cycle.new.self _ c.in_ok-cycle.ensures.trace.0, refl)
