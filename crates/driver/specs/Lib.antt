@@ -3,9 +3,4 @@ pub mod Carries
 pub mod Driving
 pub mod Attach
 pub mod Means
-pub mod Fitted
-pub mod Seeing
-pub mod Driven
-pub mod Hearing
-pub mod Sending
-pub mod Reading
+pub mod Joins

@@ -4,15 +4,11 @@ use Rattle.port.specs.Machine.{Frame}
 use Rattle.port.specs.declared.port.Port.{Ghosts}
 use Rattle.part.specs.Meaning.{Meaning, Event}
 use Rattle.driver.specs.declared.driver.Driver.{Driver}
-use Rattle.driver.specs.Driving.{Drives, Intact, seen}
+use Rattle.driver.specs.Driving.{Drives, seen}
 
 module _ {P : Type 0} (port : Ghosts P) where
   abbrev pub driver_meaning : Driver P port → Meaning
   driver_meaning d = seen d.outline (port.chip d.port)
-
-  -- what it remembers is true of the chip, which its ghost field says of every driver
-  abbrev pub DriverIntact : Driver P port → Type 0
-  DriverIntact d = Intact d.outline (port.chip d.port)
 
   -- there are frames between the two states of the port, and they do what the events say and nothing else
   abbrev pub DriverTrace : Driver P port → Driver P port → List Event → Type 0

@@ -8,8 +8,7 @@ ghost use Rattle.part.specs.Outline.{guarding, outlined};
 ghost use Rattle.part.specs.Verdict.{idle, read_verdict, refusal, told, verdict};
 ghost use Rattle.driver.specs.Frames.{cycle_frame, cycle_frames, enable_frame, reads, status_frame};
 ghost use Rattle.driver.specs.Means.{driver_meaning, DriverTrace};
-ghost use Rattle.driver.specs.Seeing.{seen-sound};
-ghost use Rattle.driver.specs.Driven.{drives_none, drives-++};
+ghost use Rattle.driver.specs.Joins.{seen-sound, drives_none, drives-++};
 
 use crate::cycle::{is_clean_for, send};
 use crate::driver::Driver;

@@ -1,4 +1,3 @@
 pub mod Closed
 pub mod Fenced
-pub mod Barring
-pub mod Marks
+pub mod Sound

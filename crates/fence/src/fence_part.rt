@@ -3,7 +3,7 @@ ghost use Rattle.std.specs.Prelude.{◌≡◌, not};
 ghost use Rattle.std.proofs.Common.{◌∙◌, rules};
 ghost use Rattle.memory.specs.Protection.{free};
 ghost use Rattle.fence.specs.Closed.{bars, fenced, is_closed};
-ghost use Rattle.fence.specs.Barring.{fenced-sound};
+ghost use Rattle.fence.specs.Sound.{fenced-sound};
 
 use crate::fence::Fence;
 use memory::geometry::Geometry;

@@ -5,7 +5,7 @@ use Rattle.port.specs.Machine.{Frame, frame, after}
 use Rattle.driver.specs.Frames.{cycle_frame}
 use Rattle.port.specs.Operations.{operation_of}
 use Rattle.port.proofs.Building.{length-enable}
-use Rattle.driver.specs.Sending.{length-cycle, after-enable}
+use Rattle.driver.proofs.Sending.{length-cycle, after-enable}
 use Rattle.driver.proofs.cycle.send.Goals as goal
 
 pub ask-requires : goal.ask-requires

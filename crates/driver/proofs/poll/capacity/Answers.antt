@@ -1,5 +1,5 @@
 use Rattle.std.proofs.Common.{get_or, ap, ◌∙◌, arith}
-use Rattle.driver.specs.Hearing.{length-identify, answer-identify, after-identify}
+use Rattle.driver.proofs.Hearing.{length-identify, answer-identify, after-identify}
 use Rattle.driver.proofs.poll.capacity.Goals as goal
 
 pub ask-requires : goal.ask-requires

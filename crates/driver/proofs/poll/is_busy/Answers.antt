@@ -1,5 +1,5 @@
 use Rattle.std.proofs.Common.{not, ap}
-use Rattle.driver.specs.Hearing.{wip}
+use Rattle.driver.proofs.Hearing.{wip}
 use Rattle.driver.proofs.poll.is_busy.Goals as goal
 
 pub returns-clause-busy : goal.returns-clause-busy

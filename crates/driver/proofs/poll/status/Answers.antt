@@ -1,5 +1,5 @@
 use Rattle.std.proofs.Common.{get_or, ap, ◌∙◌, arith}
-use Rattle.driver.specs.Hearing.{length-status, answer-status, after-status}
+use Rattle.driver.proofs.Hearing.{length-status, answer-status, after-status}
 use Rattle.driver.proofs.poll.status.Goals as goal
 
 pub ask-requires : goal.ask-requires

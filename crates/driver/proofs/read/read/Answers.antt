@@ -7,8 +7,8 @@ use Rattle.memory.proofs.Rolled.{rolled-within}
 use Rattle.port.specs.Chip.{Chip}
 use Rattle.port.specs.Machine.{Frame, answer}
 use Rattle.driver.specs.Frames.{read_frame, reads}
-use Rattle.driver.specs.Hearing.{length-read, after_read, answer-read}
-use Rattle.driver.specs.Reading.{reads_more, reads-done, block_more}
+use Rattle.driver.proofs.Hearing.{length-read, after_read, answer-read}
+use Rattle.driver.proofs.Reading.{reads_more, reads-done, block_more}
 use Rattle.driver.proofs.read.read.Goals as goal
 
 -- the frames so far, one more, and those that are left

@@ -14,9 +14,9 @@ use Rattle.part.specs.Verdict.{refusal, inside, takes_length, presets}
 use Rattle.part.proofs.Refusals.{Passes, all_passed, refused, unrefused}
 use Rattle.driver.specs.Frames.{looks, enable_frame, cycle_frame}
 use Rattle.driver.specs.Driving.{Drives, Intact, seen}
-use Rattle.driver.specs.Sending.{sendable, looks_carry, looks-harmless, looks_no_status}
-use Rattle.driver.specs.Seeing.{chip_long}
-use Rattle.driver.specs.Driven.{drives_none, drives_quiet, drives_cycle, cycle-image, cycle-intact, looked, with_busy}
+use Rattle.driver.specs.Joins.{chip_long, drives_none}
+use Rattle.driver.proofs.Sending.{sendable, looks_carry, looks-harmless, looks_no_status}
+use Rattle.driver.proofs.Driven.{drives_quiet, drives_cycle, cycle-image, cycle-intact, looked, with_busy}
 use Rattle.driver.proofs.driver_part.DriverPart.cycle.Goals as goal
 
 -- the checks before the page, as the outline and as the meaning has them

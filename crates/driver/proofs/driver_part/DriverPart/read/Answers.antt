@@ -6,8 +6,9 @@ use Rattle.part.specs.Meaning.{asked}
 use Rattle.part.specs.Outline.{outlined}
 use Rattle.part.proofs.Refusals.{read-inside, unrefused}
 use Rattle.driver.specs.Frames.{reads}
-use Rattle.driver.specs.Reading.{reads_carry, reads-harmless, reads_no_status}
-use Rattle.driver.specs.Driven.{drives_none, drives_quiet}
+use Rattle.driver.specs.Joins.{drives_none}
+use Rattle.driver.proofs.Reading.{reads_carry, reads-harmless, reads_no_status}
+use Rattle.driver.proofs.Driven.{drives_quiet}
 use Rattle.driver.proofs.driver_part.DriverPart.read.Goals as goal
 
 pub returns-in_err-check_read-clause-trace : goal.returns-in_err-check_read-clause-trace

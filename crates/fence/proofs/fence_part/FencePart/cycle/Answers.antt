@@ -3,7 +3,7 @@ use Rattle.part.specs.declared.fault.PartFault.TheVariants.{Protected}
 use Rattle.part.specs.Meaning.{Meaning}
 use Rattle.part.specs.Verdict.{told, clean_at}
 use Rattle.part.proofs.Refusals.{unrefused}
-use Rattle.fence.specs.Barring.{formed-verdict, open_verdict}
+use Rattle.fence.proofs.Barring.{formed-verdict, open_verdict}
 use Rattle.fence.proofs.fence_part.FencePart.cycle.Goals as goal
 
 pub returns-then-bars-clause-result : goal.returns-then-bars-clause-result

@@ -1,6 +1,6 @@
 use Rattle.std.proofs.Common.{◌||◌, sym, ap, ◌∙◌}
 use Rattle.fence.specs.Closed.{is_closed}
-use Rattle.fence.specs.Barring.{fenced-protection}
+use Rattle.fence.proofs.Barring.{fenced-protection}
 use Rattle.fence.proofs.fence_part.FencePart.is_protected.Goals as goal
 
 pub returns-then-protected : goal.returns-then-protected

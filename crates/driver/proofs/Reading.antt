@@ -9,7 +9,7 @@ use Rattle.port.specs.Chip.{Chip}
 use Rattle.port.specs.Machine.{Frame}
 use Rattle.driver.specs.Frames.{read_frame, reads_in, reads}
 use Rattle.driver.specs.Carries.{Carries, Harmless, none, step, status_reads}
-use Rattle.driver.specs.Hearing.{after_read, carries-read, no_status}
+use Rattle.driver.proofs.Hearing.{after_read, carries-read, no_status}
 
 reads_none : (turns room a n : ℕ) → n ≡ 0 → reads_in turns room a n ≡ []
 unfolding reads_in

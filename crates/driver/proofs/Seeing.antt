@@ -1,18 +1,11 @@
 -- The chip as a driver sees it.
-use Rattle.std.specs.Prelude.{◌≡◌, ℕ, ◌+◌, Bool, true, false, cond, not, length, ◌==◌, refl}
-use Rattle.std.proofs.Common.{sym, ap, subst, ◌∙◌, arith}
-use Rattle.memory.specs.Shape.{size}
-use Rattle.port.specs.Chip as of_chip
-use Rattle.port.specs.Chip.{Chip, shape}
+use Rattle.std.specs.Prelude.{◌≡◌, ℕ, ◌+◌, Bool, true, false, cond, not, ◌==◌, refl}
+use Rattle.std.proofs.Common.{sym, ◌∙◌, arith}
+use Rattle.port.specs.Chip.{Chip}
 use Rattle.part.specs.declared.outline.Outline.{Outline}
-use Rattle.part.specs.Meaning.{Sound}
-use Rattle.part.specs.Outline.{Outlines, outlined}
+use Rattle.part.specs.Outline.{Outlines}
 use Rattle.part.specs.Verdict.{idle}
 use Rattle.driver.specs.Driving.{seen, Intact}
-use Rattle.driver.specs.Fitted.{fitted-sound, fitted_is}
-
-pub seen-sound : (o : Outline) (c : Chip) → of_chip.Sound c → Intact o c → Sound (seen o c)
-seen-sound o c s i = subst Sound (fitted_is o c s i) (fitted-sound o c s)
 
 -- polls are due exactly while the outline says so
 due-idle : (b : Bool) (n : ℕ) → not b ≡ (cond b (n + 1) 0 == 0)
@@ -25,10 +18,6 @@ seen_outline o c = record { shape = refl; guarded = refl; idle = due-idle o.busy
 -- the image seen is the chip's
 pub seen-image : (o : Outline) (c : Chip) → (seen o c).image ≡ c.image
 seen-image o c = refl
-
--- what is remembered is true of the chip's length too
-pub chip_long : (o : Outline) (c : Chip) → of_chip.Sound c → Intact o c → length c.image ≡ size (outlined o)
-chip_long o c s i = s.imaged.whole ∙ ap size i.shape
 
 pub idle_chip : (o : Outline) (c : Chip) → Intact o c → idle (seen o c) ≡ true → c.busy ≡ 0
 idle_chip o c i e = i.idle (Rattle.std.proofs.lemmas.Bool.not-true _ (due-idle o.busy c.busy ∙ e))

@@ -14,7 +14,7 @@ use Rattle.part.specs.Meaning.{Meaning, Sound, protected_at}
 use Rattle.part.proofs.Sounds.{real}
 use Rattle.part.specs.Verdict.{check, inside, takes_length, presets, told_address, form_refusal, idle, verdict_if, protection}
 use Rattle.fence.specs.Closed.{fenced, is_closed, bars, barred_by}
-use Rattle.fence.specs.Marks.{length-either, either_at, either-closed, either_open, free_open, free-closed}
+use Rattle.fence.proofs.Marks.{either_at, either-closed, either_open, free_open, free-closed}
 
 -- every page has 64 bytes
 pub takes_length-page : (m : Shape) (kind : Kind) (n : ℕ) → m.bytes ≡ 64 → takes_length m kind n ≡ takes_length (shaped 0 0) kind n
@@ -126,15 +126,3 @@ module _ (m : Meaning) (S : Sound m) (closed : List Bool) where
       (check (takes_length m.shape kind (length sent)) (PageData (length sent))
       (check (idle m) Busy (check p (Protected (told_address kind address)) (check (presets kind clean) (NotBlank address) None)))))
       (open_permits kind address b)
-
-  pub fenced-sound : Sound (fenced m closed)
-  fenced-sound =
-      record {
-        some = S.some;
-        few = S.few;
-        paged = S.paged;
-        low = S.low;
-        page = S.page;
-        each = length-either m.guarded closed ∙ S.each;
-        imaged = S.imaged;
-      }

@@ -25,7 +25,7 @@ use Rattle.driver.specs.Frames.{Sendable, largest, enable_frame, cycle_frame, lo
 use Rattle.port.specs.Operations.{operation_of}
 use Rattle.driver.specs.Carries.{Carries, Harmless, none, step, status_reads, asks_status, carried_out}
 use Rattle.driver.specs.Driving.{Intact}
-use Rattle.driver.specs.Reading.{reads_carry, reads-harmless, reads_no_status}
+use Rattle.driver.proofs.Reading.{reads_carry, reads-harmless, reads_no_status}
 
 -- what an outline lets pass has an address of three bytes and a page at most
 inside_most : (o : Outline) (a : ℕ) → nat_lt a (size (outlined o)) ≡ true → nat_lt a 16777216 ≡ true

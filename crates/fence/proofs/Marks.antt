@@ -7,11 +7,6 @@ use Rattle.memory.specs.Protection.{free}
 use Rattle.memory.proofs.Free.{free_all, free_at, free_same}
 use Rattle.fence.specs.Closed.{either, is_closed}
 
-pub length-either : (gs cs : List Bool) → length (either gs cs) ≡ length gs
-length-either [] cs = refl
-length-either (g ∷ gs) [] = refl
-length-either (g ∷ gs) (c ∷ cs) = ap suc (length-either gs cs)
-
 -- a sector that is there has either mark
 pub either_at : (gs cs : List Bool) (k : ℕ) → k < length gs → slice_index_or (either gs cs) k false ≡ (slice_index_or gs k false || slice_index_or cs k false)
 either_at [] cs k h = absurd (omega arith)
