@@ -4,7 +4,7 @@ use Rattle.std.proofs.lemmas.Bool.{ne_eqb, eqb-true, eqb-false}
 use Rattle.std.proofs.lemmas.List.{append-nil}
 use Rattle.listing.specs.declared.extent.Extent.{Extent}
 use Rattle.listing.specs.declared.extent.Extent.TheVariants.{Note, Frame, Counted}
-use Rattle.listing.specs.Hex.{Pair, pair, Pairs, one, more}
+use Rattle.listing.specs.Hex.{Pair, Pairs, one, more}
 use Rattle.listing.specs.Grammar.{Unbroken, none, byte, LineText, noted, framed, counted, Place, start, in_note, paired, spaced, marked, wanted, told, Step, opens, notes, first, spaces, next, marks, parts, counts, note-ends, frame-ends, count-ends, Spells, here, step, Stuck, Stops}
 use Rattle.listing.specs.Parts.{Spot, Exchange}
 use Rattle.listing.specs.Scan.{pair_of, on_pair, goes_on, at_end, at_count, at_mark, closing, pairs, inside, scan, size_of, spots_by}

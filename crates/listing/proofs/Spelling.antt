@@ -3,7 +3,7 @@ use Rattle.std.proofs.Common.{◌≡◌, ℕ, ◌+◌, ◌<◌, ◌≤◌, Bool,
 use Rattle.std.proofs.Math.Nat.{suc-ne-zero}
 use Rattle.std.proofs.lemmas.List.{append-nil, append_assoc, drop-drop, drop_all, drop_more, take_more, set_at, length-drop, length-take-le}
 use Rattle.std.proofs.lemmas.Bool.{eqb-true, eq-eqb, ne_eqb, cases_eq, cases_lt}
-use Rattle.listing.specs.Hex.{Pair, pair, Pairs, one, more}
+use Rattle.listing.specs.Hex.{Pair, Pairs, one, more}
 use Rattle.listing.specs.Scan.{pair_of, on_pair}
 use Rattle.listing.specs.Values.{before, after, values, good, tallied, Spelled}
 use Rattle.listing.proofs.Digits.{pair_read, pair_left, pair-here, pair_alone, pair_past}
