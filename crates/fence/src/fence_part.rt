@@ -3,7 +3,7 @@ ghost use Rattle.std.specs.Prelude.{◌≡◌, not};
 ghost use Rattle.std.proofs.Common.{◌∙◌, rules};
 ghost use Rattle.memory.specs.Protection.{free};
 ghost use Rattle.fence.specs.Closed.{bars, fenced, is_closed};
-ghost use Rattle.fence.specs.Sound.{fenced-sound};
+ghost use Rattle.fence.specs.Sound.{fenced-sound, fenced-tells};
 
 use crate::fence::Fence;
 use memory::geometry::Geometry;
@@ -44,6 +44,8 @@ impl<P: Part> Part for Fence<P> {
     ghost stays = { Prim.search rules };
 
     ghost joins = { λ a b c l m p q. (q.0 ∙ p.0, P.Part.joins _ _ _ _ _ p.1 q.1) };
+
+    ghost tells = { λ f g l p. fenced-tells _ _ l (P.Part.tells f.part g.part l p.1) f.closed g.closed p.0 };
 
     fn geometry(&self) -> Geometry {
         self.part.geometry()

@@ -1,7 +1,7 @@
 -- What a part means, and what can be done to it.
 use Rattle.std.specs.Prelude.{◌≡◌, ℕ, suc, ◌-◌, ◌≤◌, Bool, false, List, [], ◌∷◌, length, slice_index_or}
 use Rattle.memory.specs.Shape.{Shape, Imaged}
-use Rattle.memory.specs.Cycle.{Cycle}
+use Rattle.memory.specs.Cycle.{Cycle, leads}
 
 pub record Meaning : Type 0 where
   -- sectors, pages a sector, bytes a page
@@ -34,6 +34,13 @@ cycles [] = []
 cycles (asked n ∷ es) = cycles es
 cycles (carried c ∷ es) = c ∷ cycles es
 cycles (polled ∷ es) = cycles es
+
+-- what events tell of the part before them and after: counts and protected sectors stay, and the image is the one that the
+-- cycles among the events leave
+pub record Tells (m : Meaning) (l : List Event) (n : Meaning) : Type 0 where
+  pub shape : n.shape ≡ m.shape
+  pub guarded : n.guarded ≡ m.guarded
+  pub image : leads m.shape (cycles l) m.image ≡ n.image
 
 -- how many polls are among the events
 abbrev pub polls : List Event → ℕ

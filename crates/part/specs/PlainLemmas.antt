@@ -1,8 +1,9 @@
--- What the trait asks of a plain image beside its calls: one entry for each sector, and runs one after the other.
-use Rattle.std.specs.Prelude.{◌≡◌, ℕ, List, ◌++◌, length}
+-- What the trait asks of a plain image beside its calls: one entry for each sector, runs one after the other, and what a run
+-- tells.
+use Rattle.std.specs.Prelude.{◌≡◌, ℕ, List, ◌++◌, length, refl}
 use Rattle.std.proofs.lemmas.List.FromFn.{length-map-range_with_len}
 use Rattle.memory.specs.Protection.{protects}
-use Rattle.part.specs.Meaning.{Meaning, Event}
+use Rattle.part.specs.Meaning.{Meaning, Event, Tells}
 use Rattle.part.specs.Outline.{guards}
 use Rattle.part.specs.Plain.{Played, none, read, cycle, poll}
 
@@ -15,3 +16,9 @@ played-++ none q = q
 played-++ (read p) q = read (played-++ p q)
 played-++ (cycle d t p) q = cycle d t (played-++ p q)
 played-++ (poll p) q = poll (played-++ p q)
+
+pub played-tells : {a b : Meaning} {l : List Event} → Played a l b → Tells a l b
+played-tells none = record { shape = refl; guarded = refl; image = refl }
+played-tells (read p) = let t = played-tells p in record { shape = t.shape; guarded = t.guarded; image = t.image }
+played-tells (cycle d e p) = let t = played-tells p in record { shape = t.shape; guarded = t.guarded; image = t.image }
+played-tells (poll p) = let t = played-tells p in record { shape = t.shape; guarded = t.guarded; image = t.image }

@@ -3,7 +3,7 @@ ghost use Rattle.std.specs.Prelude.{◌≡◌, ◌≤◌, true, false, not, List
 ghost use Rattle.memory.specs.Shape.{shaped};
 ghost use Rattle.memory.specs.Page.{block};
 ghost use Rattle.memory.specs.Cycle.{cycle_of, effect};
-ghost use Rattle.part.specs.Meaning.{Event, Meaning, Sound, asked, carried, polled, waited};
+ghost use Rattle.part.specs.Meaning.{Event, Meaning, Sound, Tells, asked, carried, polled, waited};
 ghost use Rattle.part.specs.Verdict.{idle, protection, read_verdict, told, verdict};
 
 use crate::fault::PartFault;
@@ -79,4 +79,7 @@ pub trait Part {
 
     // Events, and then others, lead from the first state to the last.
     ghost joins: { (a b c : Self) (l m : List Event) → trace a b l → trace b c m → trace a c (l ++ m) };
+
+    // The events are what altered it: counts and protected sectors stay, and the image is the one that the cycles among them leave.
+    ghost tells: { (a b : Self) (l : List Event) → trace a b l → Tells (meaning a) l (meaning b) };
 }

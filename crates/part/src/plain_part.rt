@@ -2,7 +2,7 @@
 ghost use Rattle.std.specs.Prelude.{◌≡◌, refl};
 ghost use Rattle.std.proofs.Common.{◌∙◌, sym};
 ghost use Rattle.part.specs.Plain.{Played, plainly, none};
-ghost use Rattle.part.specs.PlainLemmas.{length-guards, played-++};
+ghost use Rattle.part.specs.PlainLemmas.{length-guards, played-++, played-tells};
 
 use crate::fault::PartFault;
 use crate::part::Part;
@@ -31,6 +31,8 @@ impl Part for PlainImage {
     ghost stays = { λ s. (none, refl) };
 
     ghost joins = { λ a b c l m p q. (played-++ p.0 q.0, p.1 ∙ q.1) };
+
+    ghost tells = { λ a b l p. played-tells p.0 };
 
     fn geometry(&self) -> Geometry {
         self.image.geometry

@@ -39,6 +39,8 @@ impl<P: Part> Part for Counting<P> {
       joined a.asked b.asked c.asked (asked_bytes l) (asked_bytes m) _ p.1 q.1 (asked_join l m),
     ) };
 
+    ghost tells = { λ a b l p. P.Part.tells a.inner b.inner l p.0 };
+
     fn geometry(&self) -> Geometry {
         self.inner.geometry()
     }

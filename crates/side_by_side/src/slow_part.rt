@@ -1,7 +1,7 @@
 // The slow image is a part.
 ghost use Rattle.std.specs.Prelude.{refl};
 ghost use Rattle.side_by_side.specs.Slowly.{none, slowly, Slowed};
-ghost use Rattle.side_by_side.specs.Joins.{slow-sound, slowed-++};
+ghost use Rattle.side_by_side.specs.Joins.{slow-sound, slowed-++, slowed-tells};
 
 use crate::slow::SlowImage;
 use memory::geometry::Geometry;
@@ -19,6 +19,8 @@ impl Part for SlowImage {
     ghost stays = { λ s. (none, refl) };
 
     ghost joins = { slowed-++ };
+
+    ghost tells = { slowed-tells };
 
     fn geometry(&self) -> Geometry {
         self.plain.geometry()
