@@ -1,5 +1,5 @@
 -- What each frame that a driver sends asks of the chip (`hears`), and what comes of it.
-use Rattle.std.specs.Prelude.{◌≡◌, ℕ, ◌-◌, ◌%◌, ◌<◌, Bool, true, false, cond, List, [], ◌∷◌, length, ◌==◌, bit_and, nat_lt, refl}
+use Rattle.std.specs.Prelude.{◌≡◌, ℕ, ◌%◌, ◌<◌, Bool, true, false, cond, List, [], ◌∷◌, length, ◌==◌, bit_and, nat_lt, refl}
 use Rattle.std.proofs.Common.{ap, ◌∙◌, arith}
 use Rattle.std.proofs.lemmas.Nat.{and_mask, and_mod, and_le_r}
 use Rattle.std.proofs.lemmas.Bool.{cond-true, cond-false, eq-eqb, lt-ltb, cases_Bool, eqb-true, eqb-false, ne_eqb}
@@ -38,10 +38,6 @@ pub wip : (r : ℕ) (c : Chip) → c.status % 4 ≡ 0 → r ≡ shown r c → (b
 wip r c s e =
     let m = and_mask r 1 in
     let v = even r in grind (arith, nat_tests)
-
--- the status bits of the byte that an idle chip shows
-pub bits : (r : ℕ) (c : Chip) → c.status % 4 ≡ 0 → c.busy ≡ 0 → r ≡ shown r c → r - r % 4 ≡ c.status
-bits r c s b e = grind (arith, nat_tests)
 
 -- a read alters nothing, and gives the bytes where the chip is idle and the address is inside
 read-ordered : (a n : ℕ) → a < 16777216 → ordered (built Read a []) n ≡ read a
