@@ -1,8 +1,7 @@
 -- What each call's frames do.
-use Rattle.std.specs.Prelude.{◌≡◌, ℕ, ◌+◌, ◌-◌, ◌*◌, ◌/◌, ◌≤◌, Bool, true, false, cond, not, ◌&&◌, List, [], ◌∷◌, ◌++◌, length, ◌==◌, refl}
-use Rattle.std.proofs.Common.{sym, ap, ap₂, subst, ◌∙◌, arith}
-use Rattle.std.proofs.lemmas.Bool.{true≢false, eqb-true, not-false, ltb-true}
-use Rattle.std.proofs.lemmas.Bool.Decides.{nat_tests}
+use Rattle.std.specs.Prelude.{◌≡◌, ℕ, ◌+◌, ◌*◌, ◌/◌, ◌≤◌, Bool, true, false, not, ◌&&◌, List, [], ◌∷◌, ◌++◌, length, ◌==◌, refl}
+use Rattle.std.proofs.Common.{sym, ap, subst, ◌∙◌, arith}
+use Rattle.std.proofs.lemmas.Bool.{true≢false, ltb-true}
 use Rattle.memory.specs.declared.kind.Kind.{Kind}
 use Rattle.memory.specs.declared.kind.Kind.TheVariants as of_kind
 use Rattle.memory.specs.Shape.{Shape, size}
@@ -14,10 +13,9 @@ use Rattle.port.specs.Chip as of_chip
 use Rattle.port.specs.Chip.{Chip, shape}
 use Rattle.port.specs.Machine.{Frame, after, hears, waited, done, latched, takes}
 use Rattle.part.specs.declared.outline.Outline.{Outline}
-use Rattle.part.specs.Meaning as of_part
-use Rattle.part.specs.Meaning.{Meaning, Event, asked, carried, polled, cycles, polls}
-use Rattle.part.specs.Outline.{outlined, guards, guarding}
-use Rattle.part.specs.Verdict.{inside, takes_length, presets, idle}
+use Rattle.part.specs.Meaning.{Event, carried, polled, cycles, polls}
+use Rattle.part.specs.Outline.{outlined, guarding}
+use Rattle.part.specs.Verdict.{inside, takes_length, presets}
 use Rattle.port.proofs.Hearing.{status-heard}
 use Rattle.part.proofs.Refusals.{reaches_in}
 use Rattle.driver.specs.Frames.{Sendable, status_frame, enable_frame, cycle_frame, looks}
@@ -25,7 +23,6 @@ use Rattle.driver.specs.Carries.{Carries, Harmless, none, step, status_reads, ca
 use Rattle.driver.specs.Driving.{Drives, Intact, seen}
 use Rattle.driver.specs.Joins.{chip_long, carries-++, status-++}
 use Rattle.driver.proofs.Hearing.{one-status, after-status}
-use Rattle.driver.proofs.Seeing.{seen_outline}
 use Rattle.driver.proofs.Sending.{sendable, frames_no_status, sent-done, sent-carries, takes_in, looks_carry, looks_no_status}
 
 -- the outline with polls due, or with none
@@ -50,10 +47,6 @@ drives_quiet o c d fs es e q h s p y =
     }
 
 -- a poll
-still : (b : Bool) (n : ℕ) → (b ≡ false → n ≡ 0) → (b && not (n == 0)) ≡ false → n - 1 ≡ 0
-still true n h e = let z = eqb-true n 0 (not-false _ e) in omega arith
-still false n h e = let z = h refl in omega arith
-
 pub drives_poll : (o p : Outline) (c d : Chip) → outlined p ≡ outlined o → p.status.bits ≡ o.status.bits → p.busy ≡ (o.busy && not (c.busy == 0)) → d ≡ waited c
     → Drives o c (status_frame ∷ []) p d (polled ∷ [])
 drives_poll o p c d s t b e =
@@ -66,30 +59,6 @@ drives_poll o p c d s t b e =
       carries = subst Q (ap (carried_out c) (status-heard c)) (subst P (after-status 0 c ∙ sym e) (step 0 none));
       harmless = λ q. absurd q;
     }
-
-pub poll-intact : (o p : Outline) (c d : Chip) → outlined p ≡ outlined o → p.status.bits ≡ o.status.bits → p.busy ≡ (o.busy && not (c.busy == 0)) → d ≡ waited c
-    → Intact o c → Intact p d
-poll-intact o p c d s t b e i =
-    same-intact p (waited c) d e (record { shape = i.shape ∙ sym s; status = i.status ∙ sym t; idle = λ f. still o.busy c.busy i.idle (sym b ∙ f) })
-
-due-poll : (b : Bool) (n : ℕ) → cond (b && not (n == 0)) (n - 1 + 1) 0 ≡ cond b (n + 1) 0 - 1
-due-poll true n = grind (arith, nat_tests)
-due-poll false n = refl
-
-same_meaning : (s t : Shape) (i j : List ℕ) (g h : List Bool) (m n : ℕ) → s ≡ t → i ≡ j → g ≡ h → m ≡ n
-    → ◌≡◌ {A = Meaning} (record { shape = s; image = i; guarded = g; due = m }) (record { shape = t; image = j; guarded = h; due = n })
-same_meaning s t i j g h m n a b c d = cc
-
-pub seen-waited : (o p : Outline) (c d : Chip) → outlined p ≡ outlined o → p.status.bits ≡ o.status.bits → p.busy ≡ (o.busy && not (c.busy == 0)) → d ≡ waited c
-    → seen p d ≡ of_part.waited (seen o c)
-seen-waited o p c d s t b e =
-    same_meaning _ _ _ _ _ _ _ _ s
-    (ap (λ (y : Chip). y.image) e)
-    (ap₂ (λ x (y : Shape). guards x y.sectors) t s)
-    (ap₂ (λ x (y : Chip). cond x (y.busy + 1) 0) b e ∙ due-poll o.busy c.busy)
-
-pub seen-idle : (p : Outline) (d : Chip) → not p.busy ≡ idle (seen p d)
-seen-idle p d = (seen_outline p d).idle
 
 -- a page looked at by a preset lies inside
 pub looked : (o : Outline) (kind : Kind) (a n : ℕ) (r x : Bool) → n ≡ size (outlined o) → inside (outlined o) kind a ≡ true → r ≡ presets kind r

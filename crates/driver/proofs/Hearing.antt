@@ -1,25 +1,19 @@
 -- What each frame that a driver sends asks of the chip (`hears`), and what comes of it.
-use Rattle.std.specs.Prelude.{◌≡◌, ℕ, ◌+◌, ◌-◌, ◌%◌, ◌<◌, Bool, true, false, cond, List, [], ◌∷◌, length, ◌==◌, bit_and, nat_lt, refl}
+use Rattle.std.specs.Prelude.{◌≡◌, ℕ, ◌%◌, ◌<◌, Bool, true, false, cond, List, [], ◌∷◌, length, ◌==◌, bit_and, nat_lt, refl}
 use Rattle.std.proofs.Common.{ap, ◌∙◌, arith}
 use Rattle.std.proofs.lemmas.Nat.{and_mask, and_mod, and_le_r}
 use Rattle.std.proofs.lemmas.Bool.{cond-true, cond-false, eq-eqb, lt-ltb, cases_Bool, eqb-true, eqb-false, ne_eqb}
 use Rattle.std.proofs.lemmas.Bool.Decides.{nat_tests}
 use Rattle.memory.specs.Image.{rolled}
-use Rattle.port.specs.declared.instruction.Operation.{Operation}
 use Rattle.port.specs.declared.instruction.Operation.TheVariants.{ReadStatus, Identify, Read}
-use Rattle.port.specs.Instructions.{table, allows}
+use Rattle.port.specs.Instructions.{table}
 use Rattle.port.specs.Build.{built, listed}
 use Rattle.port.specs.Chip.{Chip}
-use Rattle.port.specs.Machine.{identify, read, unknown, meant, heard, hears, ordered, frame, act, after, reply, answer, shown, waited, identity}
+use Rattle.port.specs.Machine.{identify, read, unknown, heard, hears, ordered, act, after, reply, answer, shown, waited, identity}
 use Rattle.port.proofs.Building.{understood}
 use Rattle.port.proofs.Hearing.{status-heard, status-ordered}
 use Rattle.driver.specs.Frames.{status_frame, identify_frame, read_frame}
 use Rattle.driver.specs.Carries.{carried_out, asks_status}
-use Rattle.driver.specs.Driving.{lowered}
-
-pub hears-built : (c : Chip) (o : Operation) (a n : ℕ) (d : List ℕ) → a < 16777216 → ((listed o).has_data ≡ true → 0 < length d) → allows (listed o).back n ≡ true
-    → hears c (frame (built o a d) n) ≡ heard c.busy (length c.image) (meant o a d)
-hears-built c o a n d h p t = ap (heard c.busy (length c.image)) (understood o a n d h p ∙ cond-true _ _ _ t)
 
 nothing : (d : List ℕ) → false ≡ true → 0 < length d
 nothing d e = absurd (Rattle.std.proofs.lemmas.Bool.false≢true e)
@@ -44,10 +38,6 @@ pub wip : (r : ℕ) (c : Chip) → c.status % 4 ≡ 0 → r ≡ shown r c → (b
 wip r c s e =
     let m = and_mask r 1 in
     let v = even r in grind (arith, nat_tests)
-
--- the status bits of the byte that an idle chip shows
-pub bits : (r : ℕ) (c : Chip) → c.status % 4 ≡ 0 → c.busy ≡ 0 → r ≡ shown r c → r - r % 4 ≡ c.status
-bits r c s b e = grind (arith, nat_tests)
 
 -- a read alters nothing, and gives the bytes where the chip is idle and the address is inside
 read-ordered : (a n : ℕ) → a < 16777216 → ordered (built Read a []) n ≡ read a
@@ -97,9 +87,6 @@ identify-ordered : ordered (built Identify 0 []) 3 ≡ identify
 unfolding table listed built
 identify-ordered = refl
 
-pub no_status_identify : asks_status (ordered (built Identify 0 []) 3) ≡ 0
-no_status_identify = ap asks_status identify-ordered
-
 identify_acts : (x : Bool) (k : ℕ) (c : Chip) → act k c (cond x identify unknown) ≡ c
 identify_acts true k c = refl
 identify_acts false k c = refl
@@ -110,14 +97,3 @@ after-identify k c = ap (λ o. act k c (heard c.busy (length c.image) o)) identi
 pub answer-identify : (w : ℕ) (c : Chip) → c.busy ≡ 0 → answer w c identify_frame ≡ identity c
 answer-identify w c b =
     ap (λ o. reply w c (heard c.busy (length c.image) o) 3) identify-ordered ∙ ap (λ o. reply w c o 3) (cond-true _ _ _ (eq-eqb _ _ b))
-
--- one status read after another
-pub lowered_none : (c : Chip) → c ≡ lowered 0 c
-lowered_none c = ap (λ b. record { capacity = c.capacity; image = c.image; status = c.status; latch = c.latch; busy = b }) (omega arith)
-
-pub lowered_more : (i : ℕ) (c d : Chip) → d ≡ lowered i c → waited d ≡ lowered (i + 1) c
-lowered_more i c d e =
-    ap waited e ∙ ap (λ b. record { capacity = c.capacity; image = c.image; status = c.status; latch = c.latch; busy = b }) (omega arith)
-
-pub waited-idle : (c : Chip) → c.busy ≡ 0 → waited c ≡ c
-waited-idle c b = ap (λ n. record { capacity = c.capacity; image = c.image; status = c.status; latch = c.latch; busy = n }) (omega arith)

@@ -1,5 +1,4 @@
 pub mod Hearing
 pub mod Reading
 pub mod Sending
-pub mod Seeing
 pub mod Driven

@@ -2,7 +2,7 @@
 use Rattle.std.specs.Prelude.{◌≡◌, ℕ, ◌<◌, Bool, true, false, cond, not, ◌&&◌, ◌||◌, List, length, Some, None, Ok, Err, Result, unwrap_or, nat_le, nat_lt, refl}
 use Rattle.std.proofs.Common.{sym, ap, ap₂, ◌∙◌, arith}
 use Rattle.std.proofs.Math.Bool.{not-not}
-use Rattle.std.proofs.lemmas.Bool.{true≢false, cond-true, cond-false, ltb-true, not-true, not-false, not_from_true}
+use Rattle.std.proofs.lemmas.Bool.{true≢false, ltb-true, not-true, not-false, not_from_true}
 use Rattle.memory.specs.declared.kind.Kind.{Kind}
 use Rattle.memory.specs.declared.kind.Kind.TheVariants.{Program, Alter, Preset, SectorErase, BulkErase}
 use Rattle.memory.specs.Shape.{Shape, shaped, size, sector_at}
@@ -25,13 +25,6 @@ takes_length-page m SectorErase n e = refl
 takes_length-page m BulkErase n e = refl
 
 module _ (m : Shape) (idle : Bool) (kind : Kind) (address n : ℕ) where
-  pub barred-busy : inside m kind address ≡ true → takes_length m kind n ≡ true → idle ≡ false → barred_by m idle kind address n ≡ Busy
-  barred-busy i f d = cond-true _ _ _ i ∙ (cond-true _ _ _ f ∙ cond-false _ _ _ d)
-
-  pub barred_last :
-      inside m kind address ≡ true → takes_length m kind n ≡ true → idle ≡ true → barred_by m idle kind address n ≡ Protected (told_address kind address)
-  barred_last i f d = cond-true _ _ _ i ∙ (cond-true _ _ _ f ∙ cond-true _ _ _ d)
-
   -- what is told is the first of the checks before protection that fails, and else the protection
   pub barred-form : m.bytes ≡ 64 → barred_by m idle kind address n ≡ unwrap_or (form_refusal (size m) idle kind address n) (Protected (told_address kind address))
   barred-form e =

@@ -1,8 +1,8 @@
 -- Parts of a list: what a block of an image is after a put, and where numbered blocks lie.
-use Rattle.std.proofs.Common.{◌≡◌, ℕ, ◌+◌, ◌-◌, ◌*◌, ◌<◌, ◌≤◌, ◌⊎◌, List, ◌++◌, length, get_or, take, drop, replicate, sym, ap, ◌∙◌, subst, inl, inr, append_assoc, mul-le-mul_right, suc-mul, arith, length-append, length-drop, take-append-drop, length-take, get_or-drop, get_or-take, take-take, drop-drop}
+use Rattle.std.proofs.Common.{◌≡◌, ℕ, ◌+◌, ◌-◌, ◌*◌, ◌<◌, ◌≤◌, ◌⊎◌, List, ◌++◌, length, get_or, take, drop, replicate, sym, ap, ◌∙◌, subst, inl, inr, append_assoc, mul-le-mul_right, suc-mul, arith, length-append, length-drop, take-append-drop, length-take, get_or-drop, get_or-take, drop-drop}
 use lib.Seq.{take-append-le, drop-append-le, drop-append-add}
 use Rattle.std.proofs.lemmas.Bool.{cases_order}
-use Rattle.std.proofs.lemmas.List.{drop-take, take-replicate, drop-replicate}
+use Rattle.std.proofs.lemmas.List.{take-replicate, drop-replicate}
 use Rattle.memory.specs.Page.{block, put}
 
 pub length-block : (at n : ℕ) (image : List ℕ) → at + n ≤ length image → length (block at n image) ≡ n
@@ -10,17 +10,6 @@ length-block at n image h = simp (length-take, length-drop) (omega arith)
 
 pub get_or-block : (at n : ℕ) (image : List ℕ) (i : ℕ) → i < n → get_or (block at n image) i 0 ≡ get_or image (at + i) 0
 get_or-block at n image i h = get_or-take n _ i 0 h ∙ get_or-drop at image i 0
-
--- a block of a block
-pub block-block :
-    (at n b k : ℕ) (image : List ℕ) → b + k ≤ n → block b k (block at n image) ≡ block (at + b) k image
-block-block at n b k image h =
-    subst (λ y. take k (drop b (take y (drop at image))) ≡ take k (drop (at + b) image)) e
-    (ap (λ y. take k y) (drop-take b (n - b) (drop at image))
-    ∙ (take-take k (n - b) (drop b (drop at image)) (omega arith) ∙ ap (λ y. take k y) (drop-drop b at image)))
-  where
-    e : b + (n - b) ≡ n
-    e = omega arith
 
 pub block-front : (P R : List ℕ) (b n : ℕ) → b + n ≤ length P → block b n (P ++ R) ≡ block b n P
 block-front P R b n h =

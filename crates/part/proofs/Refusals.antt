@@ -1,6 +1,6 @@
 -- Refusals by an outline and by the meaning that it outlines, and what a cycle that is not refused has passed.
 use Rattle.std.proofs.Common.{◌≡◌, ℕ, ◌+◌, ◌≤◌, Bool, true, false, not, leb, List, length, get_or, is_some, Some, None, Ok, Err, Option, sym, refl, ap, ◌∙◌, ap₂}
-use Rattle.std.proofs.lemmas.Bool.{eqb-true, leb-true, cond-true, cond-false}
+use Rattle.std.proofs.lemmas.Bool.{eqb-true, leb-true, cond-true}
 use Rattle.std.proofs.lemmas.Option.{none-some}
 use Rattle.memory.specs.declared.kind.Kind.{Kind}
 use Rattle.memory.specs.declared.kind.Kind.TheVariants.{Program, Alter, Preset, SectorErase, BulkErase}
@@ -28,13 +28,6 @@ refused (Some g) f e = cc
 abbrev five : (i f d p b : Bool) (x y z v w : PartFault) → Option PartFault
 five i f d p b x y z v w = check i x (check f y (check d z (check p v (check b w None))))
 
-early : (i f d p b : Bool) (x y z v w g : PartFault) → five i f d p true x y z v w ≡ Some g → five i f d p b x y z v w ≡ Some g
-early true true true true b x y z v w g e = absurd (none-some g e)
-early true true true false b x y z v w g e = e
-early true true false p b x y z v w g e = e
-early true false d p b x y z v w g e = e
-early false f d p b x y z v w g e = e
-
 -- each check was passed
 pub record Passes (i f d p : Bool) : Type 0 where
   pub inside : i ≡ true
@@ -60,11 +53,6 @@ module _ (m : Shape) (prot : ℕ → Bool) (idle : Bool) (kind : Kind) (address 
   abbrev with : Bool → Option PartFault
   with b = five (inside m kind address) (takes_length m kind n) idle (permits m prot kind address) b (Outside address) (PageData n) Busy (Protected (told_address kind address)) (NotBlank address)
 
-  pub refused_early : (clean : Bool) (f : PartFault) → refusal m prot idle true kind address n ≡ Some f → refusal m prot idle clean kind address n ≡ Some f
-  refused_early clean f e =
-      early (inside m kind address) (takes_length m kind n) idle (permits m prot kind address) (presets kind clean) (Outside address) (PageData n) Busy
-      (Protected (told_address kind address)) (NotBlank address) f (sym (ap with (presets_clean kind)) ∙ e)
-
   pub refused_late : (clean : Bool) → refusal m prot idle true kind address n ≡ None
       → refusal m prot idle clean kind address n ≡ check (presets kind clean) (NotBlank address) None
   refused_late clean e =
@@ -79,10 +67,6 @@ module _ (m : Shape) (prot : ℕ → Bool) (idle : Bool) (kind : Kind) (address 
 
   pub done_all : (clean : Bool) → refusal m prot idle true kind address n ≡ None → presets kind clean ≡ true → refusal m prot idle clean kind address n ≡ None
   done_all clean e t = refused_late clean e ∙ cond-true _ _ _ t
-
-  pub soiled : (clean : Bool) → refusal m prot idle true kind address n ≡ None → presets kind clean ≡ false
-      → refusal m prot idle clean kind address n ≡ Some (NotBlank address)
-  soiled clean e t = refused_late clean e ∙ cond-false _ _ _ t
 
 -- an outline refuses as the meaning does
 pub outlines_read : (o : Outline) (m : Meaning) (address n : ℕ) → Outlines o m → read_refusal (outlined o) (not o.busy) address n ≡ read_verdict m address n

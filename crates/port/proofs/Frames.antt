@@ -1,7 +1,7 @@
 -- A frame taken apart: its code, the address and the data after it.
 use Rattle.std.proofs.Common.{◌≡◌, ℕ, suc, ◌+◌, ◌-◌, ◌*◌, ◌<◌, ◌≤◌, leb, List, [], ◌∷◌, length, get_or, drop, ap, ◌∙◌, arith}
 use Rattle.std.proofs.lemmas.List.{get_or-drop, drop-drop}
-use Rattle.std.proofs.lemmas.Bool.{cond-true, cond-false, le-leb, lt-leb}
+use Rattle.std.proofs.lemmas.Bool.{cond-true, le-leb}
 use Rattle.port.specs.Instructions.{table, lookup}
 use Rattle.port.specs.Machine.{ordered, shaped_by, address_in, data_in}
 
@@ -11,13 +11,6 @@ ordered_is [] n h = absurd (omega arith)
 ordered_is (x ∷ s) n h =
     let e : length s ≡ suc (length s) - 1 = omega arith in
     ap (λ l. shaped_by (lookup table x) l n (address_in s) (data_in s)) e
-
--- too short for an address
-pub address_short : (r : List ℕ) → length r < 3 → address_in r ≡ 0
-address_short r h = cond-false _ _ _ (lt-leb _ _ h)
-
-pub data_short : (r : List ℕ) → length r < 3 → data_in r ≡ []
-data_short r h = cond-false _ _ _ (lt-leb _ _ h)
 
 pub address_long : (s : List ℕ) → 3 ≤ length (drop 1 s) → address_in (drop 1 s) ≡ get_or s 1 0 * 65536 + get_or s 2 0 * 256 + get_or s 3 0
 address_long s h =
