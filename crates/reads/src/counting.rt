@@ -1,7 +1,7 @@
 // A part that counts the bytes asked of the part below it, and is that part in all else. Its trace tells its count.
-ghost use Rattle.std.specs.Prelude.{◌≡◌, ◌+◌, ◌*◌, ◌≤◌, min, List, length};
+ghost use Rattle.std.specs.Prelude.{◌≡◌, ◌+◌, ◌*◌, ◌≤◌, min, List, [], length};
 ghost use Rattle.memory.specs.Shape.{size};
-ghost use Rattle.part.specs.Meaning.{Event};
+ghost use Rattle.part.specs.Meaning.{Event, cycles, polls};
 ghost use Rattle.least.specs.Fewest.{largest};
 ghost use Rattle.planner.specs.Call.{plan_call};
 ghost use Rattle.planner.specs.Looking.{asked_bytes};
@@ -83,7 +83,7 @@ pub(crate) fn plan_counted<P: Part>(
     steps: &mut [Step],
     data: &mut [u8],
 ) -> Asked
-    ensures asked { (es : List Event) × P.Part.trace part.old.inner part.new.inner es × (result.bytes ≡ asked_bytes es) }
+    ensures asked { (es : List Event) × P.Part.trace part.old.inner part.new.inner es × (cycles es ≡ []) × (polls es ≡ 0) × (result.bytes ≡ asked_bytes es) }
     ensures most { result.bytes ≤ 3 * size (P.Part.meaning part.old.inner).shape }
     ensures cost { result.cost ≡ cost_of (plan_call (P.Part.meaning part.old.inner) address bytes.now (length steps.old) (length «data».old)) }
 {

@@ -8,7 +8,7 @@ returns-clause-asked g c =
     let look = c.plan.ensures.asked.asked in
     let m = g.P.Part.meaning c.args.part.now.inner in
     let sound = g.met.P.Part.sound c.args.part.now.inner in
-    (look.0, look.1.0, omega (arith, look.1.1, look.4, size_is m sound, pages_most m sound))
+    (look.0, look.1.0, look.2, look.3, omega (arith, look.1.1, look.4, size_is m sound, pages_most m sound))
 
 pub returns-clause-most : goal.returns-clause-most
 returns-clause-most g c =
