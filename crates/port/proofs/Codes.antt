@@ -1,15 +1,15 @@
 -- What the chip hears of the data sheet's frames.
-use Rattle.std.proofs.Common.{◌≡◌, ◌≢◌, ℕ, eqb, List, [], ◌∷◌, length, None, refl, ap, ◌∙◌, arith}
-use Rattle.std.proofs.lemmas.Bool.{cond_both, cond-true, cond-false, eq-eqb, ne_eqb, lt-ltb}
+use Rattle.std.proofs.Common.{◌≡◌, ℕ, ◌<◌, ◌≤◌, Bool, true, false, cond, ◌&&◌, eqb, ltb, leb, List, [], ◌∷◌, length, Some, sym, refl, ap, ◌∙◌, subst, arith}
+use Rattle.std.proofs.lemmas.Bool.{cond_both, cond-true, cond-false, eq-eqb, eqb-true, ltb-true, leb-true, and_parts, false_from_ne_true, lt-ltb}
 use Rattle.std.specs.List.{AllByRecursion as All}
 use Rattle.memory.specs.Cycle.{program, alter, preset, sector_erase, bulk_erase}
 use Rattle.port.specs.declared.instruction.Operation.TheVariants.{Program, Alter, Preset}
 use Rattle.port.specs.declared.instruction.Instruction.{Instruction}
-use Rattle.port.specs.Instructions.{table, lookup}
+use Rattle.port.specs.Instructions.{table, lookup, fits}
 use Rattle.port.specs.Build.{listed}
 use Rattle.port.specs.Chip.{Chip}
-use Rattle.port.specs.Machine.{Ask, enable, disable, status, read, cycle, unknown, frame, heard, hears, inside, polled, ordered, shaped_by, address_in, data_in}
-use Rattle.port.specs.Laws.{Hears, spelt}
+use Rattle.port.specs.Machine.{Ask, enable, disable, status, identify, read, cycle, unknown, Frame, frame, heard, hears, inside, polled, ordered, shaped_by, address_in, data_in}
+use Rattle.port.specs.Laws.{Hears, spelt, OnChip, Listed, code_06, code_04, code_05, code_9F, code_03, code_0B, code_02, code_22, code_D1, code_D8, code_C7}
 use Rattle.port.proofs.Building.{page-frame}
 
 enables : ordered (0x06 ∷ []) 0 ≡ enable
@@ -79,17 +79,109 @@ module _ (c : Chip) (idle : c.busy ≡ 0) where
         erases-all = heard_as (0xC7 ∷ []) 0 (cycle bulk_erase) erases-all refl;
       }
 
-unlisted : (is : List Instruction) (code : ℕ) → All (λ i. i.code ≢ code) is → lookup is code ≡ None
-unlisted [] code h = refl
-unlisted (i ∷ is) code h = cond-false _ _ _ (ne_eqb _ _ h.0) ∙ unlisted is code h.1
+-- an instruction of this code does not fit a frame of another shape
+abbrev Unfit : ℕ → ℕ → ℕ → Instruction → Type 0
+Unfit code after wanted i = i.code ≡ code → fits i after wanted ≡ false
 
-no_order : (code : ℕ) (rest : List ℕ) (n : ℕ)
-    → All (λ x. x ≢ code) (0x06 ∷ 0x04 ∷ 0x05 ∷ 0x9F ∷ 0x03 ∷ 0x0B ∷ 0x02 ∷ 0x22 ∷ 0xD1 ∷ 0xD8 ∷ 0xC7 ∷ [])
-    → ordered (code ∷ rest) n ≡ unknown
-unfolding table
-no_order code rest n h = ap (λ o. shaped_by o (length rest) n (address_in rest) (data_in rest)) (unlisted table code h)
+unlisted : (is : List Instruction) (code after wanted address : ℕ) (sent : List ℕ) → All (Unfit code after wanted) is
+    → shaped_by (lookup is code) after wanted address sent ≡ unknown
+unlisted [] code after wanted address sent h = refl
+unlisted (i ∷ is) code after wanted address sent h = go (eqb i.code code) refl (unlisted is code after wanted address sent h.1)
+  where
+    go : (b : Bool) → eqb i.code code ≡ b → shaped_by (lookup is code) after wanted address sent ≡ unknown
+        → shaped_by (cond b (Some i) (lookup is code)) after wanted address sent ≡ unknown
+    go true e r = cond-false _ _ _ (h.0 (eqb-true _ _ e))
+    go false e r = r
 
-pub no_other : (c : Chip) (code : ℕ) (rest : List ℕ) (n : ℕ)
-    → All (λ x. x ≢ code) (0x06 ∷ 0x04 ∷ 0x05 ∷ 0x9F ∷ 0x03 ∷ 0x0B ∷ 0x02 ∷ 0x22 ∷ 0xD1 ∷ 0xD8 ∷ 0xC7 ∷ [])
-    → hears c (frame (code ∷ rest) n) ≡ unknown
-no_other c code rest n h = same_heard c unknown (code ∷ rest) n (no_order code rest n h) refl refl
+-- at equal numbers
+moved : (c c' m m' n n' : ℕ) → Listed c m n → c ≡ c' → m' ≡ m → n' ≡ n → Listed c' m' n'
+moved c c' m m' n n' l e f g =
+    subst (λ x. Listed x m' n') e (subst (λ x. Listed c x n') (sym f) (subst (λ x. Listed c m x) (sym g) l))
+
+module _ (code after wanted : ℕ) (never : Listed code after wanted → ⊥) where
+  -- a row without data, by the bytes that it gives back
+  none_back : (c m : ℕ) → Listed c m 0 → c ≡ code → eqb after m && eqb wanted 0 ≡ false
+  none_back c m l e =
+      false_from_ne_true _ (λ t.
+      let p = and_parts (eqb after m) (eqb wanted 0) t in never (moved c code m after 0 wanted l e (eqb-true _ _ p.0) (eqb-true _ _ p.1)))
+
+  any_back : (c m : ℕ) → Listed c m wanted → c ≡ code → eqb after m && true ≡ false
+  any_back c m l e =
+      false_from_ne_true _ (λ t.
+      let p = and_parts (eqb after m) true t in never (moved c code m after wanted wanted l e (eqb-true _ _ p.0) refl))
+
+  few_back : (c m : ℕ) → (wanted ≤ 3 → Listed c m wanted) → c ≡ code → eqb after m && leb wanted 3 ≡ false
+  few_back c m l e =
+      false_from_ne_true _ (λ t.
+      let p = and_parts (eqb after m) (leb wanted 3) t in never (moved c code m after wanted wanted (l (leb-true _ _ p.1)) e (eqb-true _ _ p.0) refl))
+
+  -- and one with data
+  with_data : (c : ℕ) → (3 < after → Listed c after 0) → c ≡ code → ltb 3 after && eqb wanted 0 ≡ false
+  with_data c l e =
+      false_from_ne_true _ (λ t.
+      let p = and_parts (ltb 3 after) (eqb wanted 0) t in never (moved c code after after 0 wanted (l (ltb-true _ _ p.0)) e refl (eqb-true _ _ p.1)))
+
+  unfit : All (Unfit code after wanted) table
+  unfolding table
+  unfit = (
+    none_back 0x06 0 code_06,
+    (
+      none_back 0x04 0 code_04,
+      (
+        any_back 0x05 0 code_05,
+        (
+          few_back 0x9F 0 (λ h. code_9F h),
+          (
+            any_back 0x03 3 code_03,
+            (
+              any_back 0x0B 4 code_0B,
+              (
+                with_data 0x02 (λ h. code_02 h),
+                (
+                  with_data 0x22 (λ h. code_22 h),
+                  (
+                    with_data 0xD1 (λ h. code_D1 h),
+                    (none_back 0xD8 3 code_D8, (none_back 0xC7 0 code_C7, tt)),
+                  ),
+                ),
+              ),
+            ),
+          ),
+        ),
+      ),
+    ),
+  )
+
+pub no_other : (c : Chip) (code : ℕ) (rest : List ℕ) (n : ℕ) → (Listed code (length rest) n → ⊥) → hears c (frame (code ∷ rest) n) ≡ unknown
+no_other c code rest n never =
+    same_heard c unknown (code ∷ rest) n (unlisted table code (length rest) n (address_in rest) (data_in rest) (unfit code (length rest) n never)) refl refl
+
+pub no_code : (c : Chip) (n : ℕ) → hears c (frame [] n) ≡ unknown
+no_code c n = same_heard c unknown [] n refl refl refl
+
+on_chip_inside : (c : Chip) (o : Ask) → OnChip c (inside (length c.image) o)
+on_chip_inside c enable = tt
+on_chip_inside c disable = tt
+on_chip_inside c status = tt
+on_chip_inside c identify = tt
+on_chip_inside c (read a) = cond_both (ltb a (length c.image)) _ _ (OnChip c) (λ t. ltb-true _ _ t) (λ _. tt)
+on_chip_inside c (cycle (program a d)) = cond_both (ltb a (length c.image)) _ _ (OnChip c) (λ t. ltb-true _ _ t) (λ _. tt)
+on_chip_inside c (cycle (alter a d)) = cond_both (ltb a (length c.image)) _ _ (OnChip c) (λ t. ltb-true _ _ t) (λ _. tt)
+on_chip_inside c (cycle (preset a d)) = cond_both (ltb a (length c.image)) _ _ (OnChip c) (λ t. ltb-true _ _ t) (λ _. tt)
+on_chip_inside c (cycle (sector_erase a)) = cond_both (ltb a (length c.image)) _ _ (OnChip c) (λ t. ltb-true _ _ t) (λ _. tt)
+on_chip_inside c (cycle bulk_erase) = tt
+on_chip_inside c unknown = tt
+
+on_chip_polled : (c : Chip) (o : Ask) → OnChip c (polled o)
+on_chip_polled c enable = tt
+on_chip_polled c disable = tt
+on_chip_polled c status = tt
+on_chip_polled c identify = tt
+on_chip_polled c (read a) = tt
+on_chip_polled c (cycle y) = tt
+on_chip_polled c unknown = tt
+
+pub on_chip : (c : Chip) (f : Frame) → OnChip c (hears c f)
+on_chip c f =
+    let o = ordered f.sent f.wanted in
+    cond_both (eqb c.busy 0) _ _ (OnChip c) (λ _. on_chip_inside c o) (λ _. on_chip_polled c o)

@@ -16,7 +16,7 @@ use Rattle.memory.proofs.Off.{written_off, erased_off}
 use Rattle.port.specs.Chip.{Chip, Sound, shape}
 use Rattle.port.specs.Machine.{Ask, enable, disable, status, identify, read, cycle, unknown, Frame, hears, heard, inside, polled, ordered, takes, opens, reply, answer, act, after, done}
 use Rattle.port.specs.Laws.{starts, carried_by, Within, Needs, Leaves, MachineLaws}
-use Rattle.port.proofs.Codes.{codes, polls, no_other}
+use Rattle.port.proofs.Codes.{codes, polls, no_other, no_code, on_chip}
 use Rattle.port.proofs.Placed.{lays, erases}
 use Rattle.port.proofs.Taken.{latched_for, needed, taken}
 use Rattle.port.proofs.Answered.{length-reply, shows, identifies, identifies-three}
@@ -218,6 +218,8 @@ lawful =
       codes = codes;
       polls = polls;
       no_other = no_other;
+      no_code = no_code;
+      on_chip = on_chip;
       idle-image = idle-image;
       cycle-image = cycle-image;
       leaves = λ k c S. leaves c S k;

@@ -1,6 +1,5 @@
 -- What a reader of the data sheet would ask of the machine.
 use Rattle.std.specs.Prelude.{◌≡◌, ℕ, ◌+◌, ◌-◌, ◌*◌, ◌/◌, ◌%◌, ◌<◌, ◌≤◌, true, false, cond, ◌⊎◌, List, [], ◌∷◌, length, take, replicate, Some, None, Option, ◌≢◌, ◌==◌, bit_and, slice_index}
-use Rattle.std.specs.List.{AllByRecursion as All}
 use Rattle.memory.specs.Shape.{sector_at}
 use Rattle.memory.specs.Protection.{protects}
 use Rattle.memory.specs.Cycle.{Cycle, program, alter, preset, sector_erase, bulk_erase, effect}
@@ -86,6 +85,34 @@ pub record Hears (c : Chip) : Type 0 where
   pub erases : HeardAt c 0xD8 [] 0 (λ a. cycle (sector_erase a))
   pub erases-all : hears c (frame (0xC7 ∷ []) 0) ≡ cycle bulk_erase
 
+-- the address of what is heard, if it has one, lies on the chip
+abbrev pub OnChip : Chip → Ask → Type 0
+OnChip c enable = Unit {0}
+OnChip c disable = Unit {0}
+OnChip c status = Unit {0}
+OnChip c identify = Unit {0}
+OnChip c (read address) = address < length c.image
+OnChip c (cycle (program address sent)) = address < length c.image
+OnChip c (cycle (alter address sent)) = address < length c.image
+OnChip c (cycle (preset address sent)) = address < length c.image
+OnChip c (cycle (sector_erase address)) = address < length c.image
+OnChip c (cycle bulk_erase) = Unit {0}
+OnChip c unknown = Unit {0}
+
+-- the shapes of frame that the data sheet lists: a code, how many bytes follow it, and how many are wanted back
+pub data Listed : ℕ → ℕ → ℕ → Type 0 where
+  code_06 : Listed 0x06 0 0
+  code_04 : Listed 0x04 0 0
+  code_05 : {wanted : ℕ} → Listed 0x05 0 wanted
+  code_9F : {wanted : ℕ} → wanted ≤ 3 → Listed 0x9F 0 wanted
+  code_03 : {wanted : ℕ} → Listed 0x03 3 wanted
+  code_0B : {wanted : ℕ} → Listed 0x0B 4 wanted
+  code_02 : {after : ℕ} → 3 < after → Listed 0x02 after 0
+  code_22 : {after : ℕ} → 3 < after → Listed 0x22 after 0
+  code_D1 : {after : ℕ} → 3 < after → Listed 0xD1 after 0
+  code_D8 : Listed 0xD8 3 0
+  code_C7 : Listed 0xC7 0 0
+
 -- a byte that read status gives: bits 7 to 2 are those of the status, bit 0 (WIP) is 1 exactly while busy, and bit 1 (WEL) is
 -- the latch while idle
 abbrev pub Shows : Chip → ℕ → Type 0
@@ -104,10 +131,11 @@ pub record MachineLaws : Type 0 where
   pub codes : (c : Chip) → c.busy ≡ 0 → Hears c
   -- read status idle or busy
   pub polls : (c : Chip) (n : ℕ) → hears c (frame (0x05 ∷ []) n) ≡ status
-  -- a frame of any other code is ignored
-  pub no_other : (c : Chip) (code : ℕ) (rest : List ℕ) (n : ℕ)
-      → All (λ x. x ≢ code) (0x06 ∷ 0x04 ∷ 0x05 ∷ 0x9F ∷ 0x03 ∷ 0x0B ∷ 0x02 ∷ 0x22 ∷ 0xD1 ∷ 0xD8 ∷ 0xC7 ∷ [])
-      → hears c (frame (code ∷ rest) n) ≡ unknown
+  -- a frame of any other code or shape is ignored
+  pub no_other : (c : Chip) (code : ℕ) (rest : List ℕ) (n : ℕ) → (Listed code (length rest) n → ⊥) → hears c (frame (code ∷ rest) n) ≡ unknown
+  pub no_code : (c : Chip) (n : ℕ) → hears c (frame [] n) ≡ unknown
+  -- nor is anything heard of an address past the end
+  pub on_chip : (c : Chip) (f : Frame) → OnChip c (hears c f)
   -- nothing but a cycle that is carried out alters the image, and then it is the cycle's effect
   pub idle-image : (k : ℕ) (c : Chip) (f : Frame) → carried_by c f ≡ None → (after k c f).image ≡ c.image
   pub cycle-image : (k : ℕ) (c : Chip) (f : Frame) (y : Cycle) → carried_by c f ≡ Some y → (after k c f).image ≡ effect (shape c) y c.image
