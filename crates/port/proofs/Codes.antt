@@ -1,6 +1,6 @@
 -- What the chip hears of the data sheet's frames.
 use Rattle.std.proofs.Common.{◌≡◌, ℕ, ◌<◌, ◌≤◌, Bool, true, false, cond, ◌&&◌, eqb, ltb, leb, List, [], ◌∷◌, length, Some, sym, refl, ap, ◌∙◌, subst, arith}
-use Rattle.std.proofs.lemmas.Bool.{cond_both, cond-true, cond-false, eq-eqb, eqb-true, ltb-true, leb-true, and_parts, false_from_ne_true, lt-ltb}
+use Rattle.std.proofs.lemmas.Bool.{cond_both, cond-true, cond-false, eq-eqb, eqb-true, ltb-true, leb-true, and_parts, false_from_ne_true, lt-ltb, le-leb}
 use Rattle.std.specs.List.{AllByRecursion as All}
 use Rattle.memory.specs.Cycle.{program, alter, preset, sector_erase, bulk_erase}
 use Rattle.port.specs.declared.instruction.Operation.TheVariants.{Program, Alter, Preset}
@@ -23,6 +23,10 @@ disables = refl
 asks : (n : ℕ) → ordered (0x05 ∷ []) n ≡ status
 unfolding table
 asks n = refl
+
+identified : (n : ℕ) → n ≤ 3 → ordered (0x9F ∷ []) n ≡ identify
+unfolding table
+identified n h = cond-true _ _ _ (le-leb n 3 h)
 
 reads : (a2 a1 a0 n : ℕ) → ordered (0x03 ∷ a2 ∷ a1 ∷ a0 ∷ []) n ≡ read (spelt a2 a1 a0)
 unfolding table
@@ -70,6 +74,7 @@ module _ (c : Chip) (idle : c.busy ≡ 0) where
       record {
         enables = heard_as (0x06 ∷ []) 0 enable enables refl;
         disables = heard_as (0x04 ∷ []) 0 disable disables refl;
+        identified = λ n h. heard_as (0x9F ∷ []) n identify (identified n h) refl;
         reads = λ n a2 a1 a0 h. heard_as (0x03 ∷ a2 ∷ a1 ∷ a0 ∷ []) n _ (reads a2 a1 a0 n) (cond-true _ _ _ (lt-ltb _ _ h));
         reads_fast = λ n d a2 a1 a0 h. heard_as (0x0B ∷ a2 ∷ a1 ∷ a0 ∷ d ∷ []) n _ (reads_fast a2 a1 a0 d n) (cond-true _ _ _ (lt-ltb _ _ h));
         programs = λ x xs a2 a1 a0 h. heard_as (0x02 ∷ a2 ∷ a1 ∷ a0 ∷ x ∷ xs) 0 _ (programs a2 a1 a0 x xs) (cond-true _ _ _ (lt-ltb _ _ h));
@@ -93,10 +98,13 @@ unlisted (i ∷ is) code after wanted address sent h = go (eqb i.code code) refl
     go true e r = cond-false _ _ _ (h.0 (eqb-true _ _ e))
     go false e r = r
 
--- at equal numbers
+-- the same shape in other words
 moved : (c c' m m' n n' : ℕ) → Listed c m n → c ≡ c' → m' ≡ m → n' ≡ n → Listed c' m' n'
 moved c c' m m' n n' l e f g =
     subst (λ x. Listed x m' n') e (subst (λ x. Listed c x n') (sym f) (subst (λ x. Listed c m x) (sym g) l))
+
+and_more : {A B : Type 0} → A → B → A × B
+and_more a b = (a, b)
 
 module _ (code after wanted : ℕ) (never : Listed code after wanted → ⊥) where
   -- a row without data, by the bytes that it gives back
@@ -121,36 +129,21 @@ module _ (code after wanted : ℕ) (never : Listed code after wanted → ⊥) wh
       false_from_ne_true _ (λ t.
       let p = and_parts (ltb 3 after) (eqb wanted 0) t in never (moved c code after after 0 wanted (l (ltb-true _ _ p.0)) e refl (eqb-true _ _ p.1)))
 
+  -- from the last row up
   unfit : All (Unfit code after wanted) table
   unfolding table
-  unfit = (
-    none_back 0x06 0 code_06,
-    (
-      none_back 0x04 0 code_04,
-      (
-        any_back 0x05 0 code_05,
-        (
-          few_back 0x9F 0 (λ h. code_9F h),
-          (
-            any_back 0x03 3 code_03,
-            (
-              any_back 0x0B 4 code_0B,
-              (
-                with_data 0x02 (λ h. code_02 h),
-                (
-                  with_data 0x22 (λ h. code_22 h),
-                  (
-                    with_data 0xD1 (λ h. code_D1 h),
-                    (none_back 0xD8 3 code_D8, (none_back 0xC7 0 code_C7, tt)),
-                  ),
-                ),
-              ),
-            ),
-          ),
-        ),
-      ),
-    ),
-  )
+  unfit =
+      let from_c7 = and_more (none_back 0xC7 0 code_C7) tt in
+      let from_d8 = and_more (none_back 0xD8 3 code_D8) from_c7 in
+      let from_d1 = and_more (with_data 0xD1 code_D1) from_d8 in
+      let from_22 = and_more (with_data 0x22 code_22) from_d1 in
+      let from_02 = and_more (with_data 0x02 code_02) from_22 in
+      let from_0b = and_more (any_back 0x0B 4 code_0B) from_02 in
+      let from_03 = and_more (any_back 0x03 3 code_03) from_0b in
+      let from_9f = and_more (few_back 0x9F 0 code_9F) from_03 in
+      let from_05 = and_more (any_back 0x05 0 code_05) from_9f in
+      let from_04 = and_more (none_back 0x04 0 code_04) from_05 in
+      (none_back 0x06 0 code_06, from_04)
 
 pub no_other : (c : Chip) (code : ℕ) (rest : List ℕ) (n : ℕ) → (Listed code (length rest) n → ⊥) → hears c (frame (code ∷ rest) n) ≡ unknown
 no_other c code rest n never =

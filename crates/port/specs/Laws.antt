@@ -71,10 +71,11 @@ abbrev pub HeardAt : Chip → ℕ → List ℕ → ℕ → (ℕ → Ask) → Typ
 HeardAt c code rest wanted order =
     (a2 a1 a0 : ℕ) → spelt a2 a1 a0 < length c.image → hears c (frame (code ∷ a2 ∷ a1 ∷ a0 ∷ rest) wanted) ≡ order (spelt a2 a1 a0)
 
--- the frames that an idle chip hears, beside read status and the identification
+-- the frames that an idle chip hears, beside read status
 pub record Hears (c : Chip) : Type 0 where
   pub enables : hears c (frame (0x06 ∷ []) 0) ≡ enable
   pub disables : hears c (frame (0x04 ∷ []) 0) ≡ disable
+  pub identified : (n : ℕ) → n ≤ 3 → hears c (frame (0x9F ∷ []) n) ≡ identify
   pub reads : (n : ℕ) → HeardAt c 0x03 [] n read
   -- after one dummy byte
   pub reads_fast : (n dummy : ℕ) → HeardAt c 0x0B (dummy ∷ []) n read
@@ -129,7 +130,7 @@ pub record MachineLaws : Type 0 where
   pub busy : (c : Chip) (f : Frame) → 0 < c.busy → (hears c f ≡ status) ⊎ (hears c f ≡ unknown)
   -- what a frame of each code is heard as
   pub codes : (c : Chip) → c.busy ≡ 0 → Hears c
-  -- read status idle or busy
+  -- read status, idle or busy
   pub polls : (c : Chip) (n : ℕ) → hears c (frame (0x05 ∷ []) n) ≡ status
   -- a frame of any other code or shape is ignored
   pub no_other : (c : Chip) (code : ℕ) (rest : List ℕ) (n : ℕ) → (Listed code (length rest) n → ⊥) → hears c (frame (code ∷ rest) n) ≡ unknown
