@@ -11,7 +11,7 @@ use Rattle.driver.specs.Frames.{status_frame}
 use Rattle.driver.specs.Means.{driver_meaning, DriverTrace}
 use Rattle.least.specs.declared.step.Step.{Step}
 use Rattle.calls.specs.declared.call.Entry.{Entry}
-use Rattle.calls.specs.Requests.{Records}
+use Rattle.calls.specs.Records.{Records}
 use Rattle.calls.specs.History.{Kept, State}
 
 module _ {P : Type 0} (ports : Ghosts P) where

@@ -7,7 +7,8 @@ use Rattle.least.specs.declared.step.Step.{Step}
 use Rattle.calls.specs.declared.call.Answer.{Answer}
 use Rattle.calls.specs.declared.call.Call.{Call}
 use Rattle.calls.specs.declared.call.Entry.{Entry}
-use Rattle.calls.specs.Requests.{Recorded, Records, asks, buffer}
+use Rattle.calls.specs.Requests.{asks, buffer}
+use Rattle.calls.specs.Records.{Recorded, Records}
 use Rattle.calls.specs.Reference.{Reference}
 use Rattle.calls.specs.Law.{Law}
 use Rattle.calls.specs.History.{History, State, none, more, between, fed_by, fed_all, state, Agrees, Follows, start}

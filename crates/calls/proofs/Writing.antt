@@ -14,7 +14,7 @@ use Rattle.least.specs.Writes as writes
 use Rattle.least.specs.Theorems as theorems
 use Rattle.least.specs.Theorems.{Says, LeastBy}
 use Rattle.planner.specs.Waits.{Polls}
-use Rattle.planner.specs.Looking.{LookedBy}
+use Rattle.planner.specs.Looking.{LookedBy, wanted}
 use Rattle.planner.specs.Running.{Carries, Did, Sends, none as sent_none, more as sent_more}
 use Rattle.planner.proofs.Doings.{did_polls, did_step, did_join, sends_did}
 use Rattle.writing.proofs.Carrying.{did_looked, did_over, polls-idle, sends-idle}
@@ -22,13 +22,13 @@ use Rattle.writing.proofs.Unrefused.{Made, planned-made}
 use Rattle.writing.specs.declared.fault.WriteFault.{WriteFault}
 use Rattle.writing.specs.declared.fault.WriteFault.TheVariants.{Limit, Outside, StillBusy, Protected, StepsShort, DataShort}
 use Rattle.writing.specs.WriteRows.{row}
-use Rattle.writing.specs.Wrote.{Buffers, Left, Filled, Planned, plan_over, Carried, unplanned, written, abandoned, Wrote, no_limit, outside, still-busy, waited}
+use Rattle.writing.specs.Wrote.{Buffers, Left, Filled, LookedOver, plan_over, Carried, unplanned, written, abandoned, Wrote, no_limit, outside, still-busy, waited}
 use Rattle.calls.specs.declared.call.Refusal.TheVariants.{Write}
 use Rattle.calls.specs.declared.call.Answer.{Answer}
 use Rattle.calls.specs.declared.call.Answer.TheVariants as answers
 use Rattle.calls.specs.Refusals.{write_answer}
 use Rattle.calls.specs.Requests.{writing}
-use Rattle.calls.specs.Causes.{Passes, WriteCause, wanted}
+use Rattle.calls.specs.Causes.{Passes, WriteCause}
 use Rattle.calls.specs.Effects.{Begun, Paced, none, more, RefusedWrite, Roomy}
 use Rattle.calls.specs.Law.{ProtectedLaw, fencing, meant, Traced}
 use Rattle.calls.proofs.Owing.{Owed, holds_moved, holds_put}
@@ -154,6 +154,7 @@ module _ {P : Type 0} (part : Ghosts P)
                             paced = paced_of sends;
                             idle = quiet;
                             leaves = leaves;
+                            steady = record { shape = d.shape; guarded = d.guarded };
                             accepted = plan.0.goes;
                             costs = plan.0.costs;
                             least = plan.0.least;
@@ -198,6 +199,11 @@ module _ {P : Type 0} (part : Ghosts P)
                             accepted =
                                 subst (λ (x : List ℕ). Goes (m f).shape (protected_at (m f)) (m f).image (ys ++ y ∷ []) x) (sym (polls-image limit still g stop))
                                 both.goes;
+                            steady =
+                                record {
+                                  shape = ap (λ (x : Meaning). x.shape) stop.leaves ∙ both.shape;
+                                  guarded = ap (λ (x : Meaning). x.guarded) stop.leaves ∙ both.guarded;
+                                };
                             plan = cycles_of fresh list;
                             cost = cost;
                             least = plan.0;
@@ -224,7 +230,7 @@ module _ {P : Type 0} (part : Ghosts P)
         → SaysOf (m idle) (plan_over (m idle) address bytes steps room) → Carried fence limit address bytes b idle g r → Owes f (write_answer r) g
     carried_owed f idle g r passes p says carried = go r carried
       where
-        begun : (ready : Fence P) → Planned fence idle ready → Begun fence f ready
+        begun : (ready : Fence P) → LookedOver fence idle ready → Begun fence f ready
         begun ready l = record { idle = idle; waits = p; looks = subst (λ (x : Meaning). LookedBy fence (3 * size x.shape) idle ready) p.leaves l }
 
         quiet : (m idle).due ≡ 0

@@ -1,13 +1,13 @@
 -- What has to hold of a part for a call to be refused, and for a write to be done or abandoned.
 use Rattle.std.specs.Prelude.{◌≡◌, ℕ, ◌+◌, ◌<◌, ◌≤◌, true, false, ◌⊎◌, List, length, Some}
 use Rattle.memory.specs.Shape.{size}
-use Rattle.memory.specs.Page.{put}
 use Rattle.memory.specs.Cycle.{Cycle, Goes}
 use Rattle.part.specs.declared.fault.PartFault.TheVariants as parts
 use Rattle.part.specs.Meaning.{Meaning, protected_at}
 use Rattle.least.specs.Barred.{LowestIs}
 use Rattle.least.specs.Theorems.{LeastBy}
-use Rattle.planner.specs.Running.{allowed}
+use Rattle.part.specs.Limit.{allowed}
+use Rattle.planner.specs.Looking.{wanted}
 use Rattle.writing.specs.declared.fault.WriteFault.{WriteFault}
 use Rattle.writing.specs.declared.fault.WriteFault.TheVariants.{Limit, Outside, StillBusy, Protected, StepsShort, DataShort, Abandoned, Refused}
 use Rattle.calls.specs.declared.call.Refusal.{Refusal}
@@ -20,10 +20,6 @@ Leads m l image = Goes m.shape (protected_at m) m.image l image
 
 abbrev pub NothingLeads : Meaning → List ℕ → Type 0
 NothingLeads m image = (l : List Cycle) → Leads m l image → ⊥
-
--- the image with the write's range replaced
-abbrev pub wanted : Meaning → ℕ → List ℕ → List ℕ
-wanted m address bytes = put address bytes m.image
 
 -- the checks of a write that come before protection
 pub record Passes (m : Meaning) (address n limit : ℕ) : Type 0 where

@@ -8,12 +8,12 @@ use Rattle.least.specs.Cost.{spent}
 use Rattle.least.specs.Fewest.{fewest}
 use Rattle.least.specs.Steps.{steps_of, data_of}
 use Rattle.least.specs.Theorems.{LeastBy}
-use Rattle.planner.specs.Looking.{LookedBy}
+use Rattle.planner.specs.Looking.{LookedBy, wanted}
 use Rattle.planner.specs.Waits.{Polls}
 use Rattle.writing.specs.Wrote.{Buffers, Filled}
 use Rattle.writing.specs.declared.fault.WriteFault.{WriteFault}
 use Rattle.writing.specs.declared.fault.WriteFault.TheVariants.{Limit, Outside, StillBusy, Protected, StepsShort, DataShort, Abandoned, Refused}
-use Rattle.calls.specs.Causes.{Leads, Passes, wanted}
+use Rattle.calls.specs.Causes.{Leads, Passes}
 
 -- room in the step list and in the data buffer for a plan of this cost
 abbrev pub Roomy : Buffers → ℕ × ℕ → Type 0
@@ -28,14 +28,18 @@ module _ {F : Type 0} (part : Ghosts F) where
         → part.trace g h (carried y ∷ []) → 1 ≤ (part.meaning h).due → (part.meaning h).due ≤ limit
         → Polls part (part.meaning h).due h k → Paced limit f (ys ++ y ∷ []) k
 
+  -- counts and protected sectors stay
+  pub record Steady (f g : F) : Type 0 where
+    pub shape : (part.meaning g).shape ≡ (part.meaning f).shape
+    pub guarded : (part.meaning g).guarded ≡ (part.meaning f).guarded
+
   -- what was due was waited for, and the image then only looked at, for at most three times its bytes
   pub record Begun (f g : F) : Type 0 where
     pub idle : F
     pub waits : Polls part (part.meaning f).due f idle
     pub looks : LookedBy part (3 * size (part.meaning f).shape) idle g
 
-  -- a refused write: nothing is carried out, and the two buffers are as they were. The limit and the range are looked at before
-  -- anything is done; a write that finds polls due beyond the limit made the limit's
+  -- a refused write carries nothing out: the limit and the range are looked at before anything is done; a write that finds polls due beyond the limit made the limit's
   abbrev pub RefusedWrite : WriteFault → F → F → Type 0
   RefusedWrite (Limit n) f g = g ≡ f
   RefusedWrite (Outside a) f g = g ≡ f
@@ -57,6 +61,7 @@ module _ {F : Type 0} (part : Ghosts F) where
       pub paced : Paced limit ready sent g
       pub idle : (part.meaning g).due ≡ 0
       pub leaves : (part.meaning g).image ≡ wanted (part.meaning f) address bytes
+      pub steady : Steady f g
       pub accepted : Leads (part.meaning f) sent (wanted (part.meaning f) address bytes)
       pub costs : spent fewest sent ≡ cost
       pub least : (l : List Cycle) → Leads (part.meaning f) l (wanted (part.meaning f) address bytes) → fewest.leq cost (spent fewest l) ≡ true
@@ -82,6 +87,7 @@ module _ {F : Type 0} (part : Ghosts F) where
       pub polls : Polls part limit still g
       pub counted : n ≡ length (sent ++ last ∷ [])
       pub accepted : Leads (part.meaning f) (sent ++ last ∷ []) (part.meaning g).image
+      pub steady : Steady f g
       pub plan : List Cycle
       pub cost : ℕ × ℕ
       pub least : LeastBy (part.meaning f).shape (protected_at (part.meaning f)) (part.meaning f).image (wanted (part.meaning f) address bytes) plan cost

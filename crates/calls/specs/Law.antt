@@ -13,7 +13,8 @@ use Rattle.calls.specs.declared.call.Answer.TheVariants.{Done, Written, Refused,
 use Rattle.calls.specs.Refusals.{row}
 use Rattle.calls.specs.Requests.{Request, closing, opening, reading, writing, outcome}
 use Rattle.calls.specs.Reference.{Reference, fed, Holds}
-use Rattle.calls.specs.Causes.{Cause, Passes, NothingLeads, wanted}
+use Rattle.planner.specs.Looking.{wanted}
+use Rattle.calls.specs.Causes.{Cause, Passes, NothingLeads}
 use Rattle.calls.specs.Effects.{DoneWrite, AbandonedWrite, RefusedWrite}
 
 -- the call is refused as protected

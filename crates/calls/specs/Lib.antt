@@ -1,5 +1,6 @@
 pub mod Refusals
 pub mod Requests
+pub mod Records
 pub mod Reference
 pub mod Causes
 pub mod Effects

@@ -1,10 +1,9 @@
--- What a call asks, and a record of calls before they were made and after.
-use Rattle.std.specs.Prelude.{◌≡◌, ℕ, List, [], ◌∷◌, Some, vec_items, vec_len}
+-- What a call asks, and what came of it.
+use Rattle.std.specs.Prelude.{ℕ, List, [], vec_items, vec_len}
 use Rattle.calls.specs.declared.call.Call.{Call}
 use Rattle.calls.specs.declared.call.Call.TheVariants.{Close, Open, Read, Write}
 use Rattle.calls.specs.declared.call.Answer.{Answer}
 use Rattle.calls.specs.declared.call.Answer.TheVariants.{Done, Written, Refused, Abandoned}
-use Rattle.calls.specs.declared.call.Entry.{Entry}
 
 pub data Request : Type 0 where
   closing : ℕ → Request
@@ -38,21 +37,3 @@ outcome Done = done
 outcome (Written cost) = done
 outcome (Refused refusal) = refused
 outcome (Abandoned cycles) = abandoned
-
--- a call as it was handed in and as it was left with this answer: only a done read's buffer is another
-pub record Made (before after : Call) (answer : Answer) : Type 0 where
-  pub same : asks after ≡ asks before
-  pub unread : outcome answer ≡ refused → buffer after ≡ buffer before
-
--- an entry of the record before its call was made and after
-pub record Recorded (before after : Entry) : Type 0 where
-  pub answer : Answer
-  pub answered : after.answer ≡ Some answer
-  pub made : Made before.call after.call answer
-
--- each entry of the record, in their order
-abbrev pub Records : List Entry → List Entry → Type 0
-Records [] [] = Unit {0}
-Records [] (a ∷ after) = ⊥
-Records (b ∷ before) [] = ⊥
-Records (b ∷ before) (a ∷ after) = Recorded b a × Records before after

@@ -1,6 +1,6 @@
 // One call made to a fence.
 ghost use Rattle.std.specs.Prelude.{◌≡◌};
-ghost use Rattle.calls.specs.Requests.{Made};
+ghost use Rattle.calls.specs.Records.{Made};
 ghost use Rattle.calls.specs.History.{Follows, state};
 
 use crate::call::{Answer, Call};

@@ -1,6 +1,6 @@
 // A list of calls made to a new fence.
 ghost use Rattle.std.specs.Prelude.{◌≡◌};
-ghost use Rattle.calls.specs.Requests.{Records};
+ghost use Rattle.calls.specs.Records.{Records};
 ghost use Rattle.calls.specs.History.{Kept, state};
 
 use crate::call::Entry;

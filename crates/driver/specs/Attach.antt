@@ -1,8 +1,9 @@
 -- Attaching, and its refusals.
-use Rattle.std.specs.Prelude.{ℕ, ◌+◌, cond, ◌&&◌, List, [], ◌∷◌, ◌++◌, replicate, Some, None, Option, nat_le, nat_lt}
+use Rattle.std.specs.Prelude.{ℕ, ◌+◌, cond, List, [], ◌∷◌, ◌++◌, replicate, Some, None, Option, nat_lt}
 use Rattle.memory.specs.Row.{Row, rowed}
 use Rattle.port.specs.Chip.{Chip}
 use Rattle.port.specs.Machine.{Frame}
+use Rattle.part.specs.Limit.{allowed}
 use Rattle.driver.specs.declared.fault.AttachFault.{AttachFault}
 use Rattle.driver.specs.declared.fault.AttachFault.TheVariants.{Limit, Busy}
 use Rattle.driver.specs.Frames.{identify_frame, status_frame}
@@ -13,7 +14,7 @@ row (Busy polls) = rowed 1 3 (polls ∷ [])
 
 -- why a driver does not attach with this poll limit to a chip that will show busy so many times, if it does not
 abbrev pub unattached : ℕ → ℕ → Option AttachFault
-unattached limit busy = cond (nat_lt 0 limit && nat_le limit 4096) (cond (nat_lt busy limit) None (Some (Busy limit))) (Some (Limit limit))
+unattached limit busy = cond (allowed limit) (cond (nat_lt busy limit) None (Some (Busy limit))) (Some (Limit limit))
 
 -- the chip once it has shown idle
 abbrev pub rested : Chip → Chip

@@ -60,6 +60,7 @@ module _ {P : Type 0} (part : Ghosts P) (sent : List ℕ) (s : Step) (from to : 
       let c : cycle_of s.kind s.address mine ≡ cycle_of s.kind s.address whole = same_cycle s.kind s.address mine whole d in (
         eqb-true _ _ (all_passed m.shape (protected_at m) (idle m) s.kind s.address (length whole) (clean_at m s.address) v).idle,
         record {
+          passes = step-verdict m sent s h ∙ v;
           event = subst (λ (y : Cycle). part.trace from to (carried y ∷ [])) c trace;
           shape = shape;
           guarded = guarded;

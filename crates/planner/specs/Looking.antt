@@ -6,12 +6,6 @@ use Rattle.part.specs.declared.part.Part.{Ghosts}
 use Rattle.part.specs.Meaning.{Meaning, Event, Sound, asked, carried, polled, cycles, polls}
 use Rattle.part.specs.Verdict.{idle}
 
--- from one state of a part to another nothing altered, and no cycle and no poll was among the events
-pub record Looked {S : Type 0} (part : Ghosts S) (a b : S)
-    : Type 0 where
-  pub same : part.meaning b ≡ part.meaning a
-  pub asked : (es : List Event) × part.trace a b es × (cycles es ≡ []) × (polls es ≡ 0)
-
 -- how many bytes were asked for
 abbrev pub asked_bytes : List Event → ℕ
 asked_bytes [] = 0
@@ -19,7 +13,7 @@ asked_bytes (asked n ∷ es) = n + asked_bytes es
 asked_bytes (carried c ∷ es) = asked_bytes es
 asked_bytes (polled ∷ es) = asked_bytes es
 
--- such a look, for which no more than n bytes were asked
+-- from one state of a part to another nothing altered: no cycle and no poll was among the events, and no more than n bytes were asked for
 pub record LookedBy {S : Type 0} (part : Ghosts S) (n : ℕ)
     (a b : S)
     : Type 0 where

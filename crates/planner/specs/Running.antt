@@ -1,5 +1,5 @@
 -- Steps sent to a part, one after another.
-use Rattle.std.specs.Prelude.{◌≡◌, ℕ, ◌+◌, ◌<◌, ◌≤◌, Bool, true, false, ◌&&◌, List, [], ◌∷◌, ◌++◌, length, take, Some, Ok, Err, Option, Result, nat_le, nat_lt}
+use Rattle.std.specs.Prelude.{◌≡◌, ℕ, ◌+◌, ◌<◌, ◌≤◌, Bool, true, false, List, [], ◌∷◌, ◌++◌, length, take, Some, Ok, Err, Option, None, Result, nat_le}
 use Rattle.memory.specs.declared.kind.Kind.{Kind}
 use Rattle.memory.specs.declared.kind.Kind.TheVariants.{Program, Alter, Preset, SectorErase, BulkErase}
 use Rattle.memory.specs.Page.{block}
@@ -8,6 +8,7 @@ use Rattle.part.specs.declared.fault.PartFault.{PartFault}
 use Rattle.part.specs.declared.fault.PartFault.TheVariants.{Outside, PageData}
 use Rattle.part.specs.declared.part.Part.{Ghosts}
 use Rattle.part.specs.Meaning.{Meaning, Event, carried, cycles, protected_at}
+use Rattle.part.specs.Limit.{allowed}
 use Rattle.part.specs.Verdict.{check, inside, verdict}
 use Rattle.least.specs.declared.step.Step.{Step}
 use Rattle.planner.specs.declared.run_fault.RunFault.{RunFault}
@@ -34,10 +35,6 @@ step_verdict m sent s =
     (check (held s.kind (lies s sent)) (PageData s.length)
     (verdict m s.kind s.address (block s.place s.length sent)))
 
--- a limit of 1 to 4,096 polls
-abbrev pub allowed : ℕ → Bool
-allowed limit = nat_lt 0 limit && nat_le limit 4096
-
 -- how many cycles a run sent
 abbrev pub sent_before : Result ℕ RunFault → ℕ
 sent_before (Ok n) = n
@@ -49,6 +46,8 @@ sent_before (Err (Abandoned n)) = n
 module _ {P : Type 0} (part : Ghosts P) (sent : List ℕ) where
   -- the step's cycle, and nothing else, led from one state of a part to another
   pub record Carries (s : Step) (from to : P) : Type 0 where
+    -- nothing refuses it: not its address, nor its data, nor the part
+    pub passes : step_verdict (part.meaning from) sent s ≡ None
     pub event : part.trace from to (carried (step_cycle sent s) ∷ [])
     pub shape : (part.meaning to).shape ≡ (part.meaning from).shape
     pub guarded : (part.meaning to).guarded ≡ (part.meaning from).guarded

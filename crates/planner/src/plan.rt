@@ -1,10 +1,8 @@
 // Planning a write over any part.
-ghost use Rattle.std.specs.Prelude.{◌≡◌, ℕ, ◌+◌, ◌*◌, ◌<◌, ◌≤◌, true, false, length, drop, is_ok, IfOk, Err, nat_le, slice_index};
+ghost use Rattle.std.specs.Prelude.{◌≡◌, ℕ, ◌*◌, ◌<◌, ◌≤◌, length, IfOk, slice_index};
 ghost use Rattle.memory.specs.Shape.{size};
-ghost use Rattle.part.specs.Verdict.{idle};
-ghost use Rattle.planner.specs.declared.fault.PlanFault.TheVariants.{Busy, Outside};
 ghost use Rattle.planner.specs.Asking.{whole};
-ghost use Rattle.planner.specs.Looking.{Fitting, Looked, LookedBy};
+ghost use Rattle.planner.specs.Looking.{Fitting, LookedBy};
 ghost use Rattle.planner.specs.Call.{Handed, plan_call, plan_inside};
 
 use crate::barred::lowest_barred;
@@ -27,9 +25,7 @@ fn plan_inside<P: Part>(
     requires fitting { Fitting (P.Part.meaning part.old) write.address write.bytes.now }
     requires byte { (i : ℕ) → slice_index write.bytes.now i < 256 }
     ensures looked { LookedBy P.Part (3 * whole (P.Part.meaning part.old)) part.old part.new }
-    ensures unplanned { is_ok result ≡ false → (steps.new ≡ steps.old) × («data».new ≡ «data».old) }
     ensures room { IfOk result (λ cost. (cost.0 ≤ length steps.old) × (cost.1 ≤ length «data».old)) }
-    ensures rest { IfOk result (λ cost. (drop cost.0 steps.new ≡ drop cost.0 steps.old) × (drop cost.1 «data».new ≡ drop cost.1 «data».old)) }
     ensures answer { Handed (plan_inside (P.Part.meaning part.old) write.entry.address write.entry.bytes.now (length steps.old) (length «data».old)) result steps.old steps.new «data».old «data».new }
 {
     if let Some(place) = lowest_barred(part, write) {
@@ -63,13 +59,8 @@ pub fn plan<P: Part>(
     steps: &mut [Step],
     data: &mut [u8],
 ) -> Result<Cost, PlanFault>
-    ensures looked { Looked P.Part part.old part.new }
     ensures asked { LookedBy P.Part (3 * size (P.Part.meaning part.old).shape) part.old part.new }
-    ensures outside { nat_le (address + length bytes.now) (size (P.Part.meaning part.old).shape) ≡ false → result ≡ Err (Outside address) }
-    ensures busy { nat_le (address + length bytes.now) (size (P.Part.meaning part.old).shape) ≡ true → idle (P.Part.meaning part.old) ≡ false → result ≡ Err Busy }
-    ensures unplanned { is_ok result ≡ false → (steps.new ≡ steps.old) × («data».new ≡ «data».old) }
     ensures room { IfOk result (λ cost. (cost.0 ≤ length steps.old) × (cost.1 ≤ length «data».old)) }
-    ensures rest { IfOk result (λ cost. (drop cost.0 steps.new ≡ drop cost.0 steps.old) × (drop cost.1 «data».new ≡ drop cost.1 «data».old)) }
     ensures answer { Handed (plan_call (P.Part.meaning part.old) address bytes.now (length steps.old) (length «data».old)) result steps.old steps.new «data».old «data».new }
 {
     if !is_inside(size_of(part), address, bytes.len()) {

@@ -2,6 +2,7 @@ pub mod Instructions
 pub mod Operations
 pub mod Chip
 pub mod Machine
+pub mod Acts
 pub mod Rows
 pub mod Bench
 pub mod Bus

@@ -5,7 +5,7 @@ ghost use Rattle.port.specs.Machine.{Runs, after, answer, frame, verdict, none};
 ghost use Rattle.port.specs.Bench.{chip_of};
 ghost use Rattle.memory.specs.Shape.{size};
 ghost use Rattle.memory.specs.Models.{shape_for};
-ghost use Rattle.port.specs.Joins.{runs-++};
+ghost use Rattle.port.specs.Joins.{runs-++, runs_act};
 
 use crate::bench::BenchChip;
 use crate::decode::{decode, hear};
@@ -36,7 +36,7 @@ impl Port for BenchChip {
 
     ghost longest = { λ _. 320 };
 
-    // Bit 1 shows 0 while busy, and a cycle sets the busy count to the number chosen at making.
+    // A cycle sets the busy count to the number chosen at making.
     ghost trace = { λ a b l. Runs a.busy_number (chip_of a) l (chip_of b) × (a.busy_number ≡ b.busy_number) };
 
     ghost sound = { λ s.
@@ -51,6 +51,10 @@ impl Port for BenchChip {
     ghost joins = { λ a b c l m p q.
         let P : ℕ → Type 0 = λ k. Runs k (chip_of b) m (chip_of c) in
         (runs-++ p.0 (subst P (sym p.1) q.0), p.1 ∙ q.1) };
+
+    ghost tells = { λ a b l p. runs_act p.0 };
+
+    ghost keeps = { λ a b l p. refl };
 
     fn longest_frame(&self) -> usize {
         LONGEST

@@ -1,8 +1,8 @@
 // A bus of two ports, of which one is used.
 ghost use Rattle.std.specs.Prelude.{◌≡◌, min};
-ghost use Rattle.std.proofs.Common.{◌∙◌, rules};
+ghost use Rattle.std.proofs.Common.{◌∙◌, ap, ap₂, rules, sym};
 ghost use Rattle.port.specs.Bus.{OnSide, by_side};
-ghost use Rattle.port.specs.Joins.{on_side};
+ghost use Rattle.port.specs.Joins.{of_side, on_side, side_acts};
 
 use crate::fault::{PortFault, check_length};
 use crate::port::Port;
@@ -56,6 +56,12 @@ impl<L: Port, R: Port> Port for Bus<L, R> {
           (λ x y. (x.0 ∙ y.0, L.Port.joins _ _ _ _ _ x.1 y.1))
           (λ x y. (x.0 ∙ y.0, R.Port.joins _ _ _ _ _ x.1 y.1)),
     ) };
+
+    ghost tells = { λ a b l p. side_acts a.chosen b.chosen p.0 p.1 (λ x. L.Port.tells _ _ _ x.1) (λ x. R.Port.tells _ _ _ x.1) };
+
+    ghost keeps = { λ a b l p. of_side a.chosen p.1
+        (λ x. ap₂ min (L.Port.keeps _ _ _ x.1) (sym (ap R.Port.longest x.0)))
+        (λ x. ap₂ min (sym (ap L.Port.longest x.0)) (R.Port.keeps _ _ _ x.1)) };
 
     fn longest_frame(&self) -> usize {
         self.first.longest_frame().min(self.second.longest_frame())

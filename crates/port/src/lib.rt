@@ -11,5 +11,6 @@ pub mod fault;
 pub mod instruction;
 pub mod laws;
 mod machine;
+mod making;
 pub mod order;
 pub mod port;

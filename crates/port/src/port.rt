@@ -1,5 +1,6 @@
 // The port: a chip behind frames.
 ghost use Rattle.std.specs.Prelude.{◌≡◌, ℕ, ◌≤◌, List, [], ◌∷◌, ◌++◌, length, is_ok, if◌then◌else◌, slice_index};
+ghost use Rattle.port.specs.Acts.{Acts};
 ghost use Rattle.port.specs.Chip.{Chip, Sound};
 ghost use Rattle.port.specs.Machine.{Frame, after, answer, frame, verdict};
 
@@ -32,4 +33,10 @@ pub trait Port {
     ghost stays: { (s : Self) → trace s s [] };
 
     ghost joins: { (a b c : Self) (l m : List Frame) → trace a b l → trace b c m → trace a c (l ++ m) };
+
+    // The frames are what altered the chip: each acts on it as the machine says.
+    ghost tells: { (a b : Self) (l : List Frame) → trace a b l → Acts (chip a) l (chip b) };
+
+    // How long a frame may be stays.
+    ghost keeps: { (a b : Self) (l : List Frame) → trace a b l → longest b ≡ longest a };
 }

@@ -7,6 +7,7 @@ use Rattle.std.proofs.lemmas.Result.{err_from_is_err_and}
 use Rattle.memory.specs.Page.{put}
 use Rattle.memory.specs.Cycle.{Cycle}
 use Rattle.part.specs.declared.part.Part.{Ghosts}
+use Rattle.part.specs.Limit.{allowed}
 use Rattle.part.specs.Meaning as of_part
 use Rattle.part.specs.Meaning.{Meaning, Event, Sound, polled}
 use Rattle.part.specs.Verdict.{idle}
@@ -22,13 +23,13 @@ use Rattle.planner.specs.Call.{Handed, plan_call, plan_row}
 use Rattle.planner.specs.Looking.{LookedBy}
 use Rattle.planner.specs.Waits.{Polls, waited_by}
 use Rattle.planner.specs.Running as running
-use Rattle.planner.specs.Running.{Ran, Sends, Did, allowed}
+use Rattle.planner.specs.Running.{Ran, Sends, Did}
 use Rattle.planner.proofs.Calls.{call_idle}
 use Rattle.planner.proofs.Doings.{did_polls, did_join, sends_did}
 use Rattle.writing.specs.declared.fault.WriteFault.{WriteFault}
 use Rattle.writing.specs.WriteRows.{row, unplanned_as, unrun_as}
 use Rattle.writing.specs.Wrote as wrote
-use Rattle.writing.specs.Wrote.{plan_over, Buffers, buffers, Filled, Planned, Carried, unplanned, abandoned}
+use Rattle.writing.specs.Wrote.{plan_over, Buffers, buffers, Filled, LookedOver, Carried, unplanned, abandoned}
 use Rattle.writing.proofs.Unrefused.{Made, planned-made, unrefused}
 
 waited_none : (m : Meaning) → waited_by 0 m ≡ m
@@ -104,7 +105,7 @@ module _ {P : Type 0} (part : Ghosts P)
           → Handed (answer a) r steps steps' sent sent'
       handed a r q h = rw (call_idle (part.meaning a) address bytes (length steps) (length sent) q) at h
 
-      pub carried-unplanned : (a b : P) (fault : PlanFault) → (part.meaning a).due ≡ 0 → Planned part a b
+      pub carried-unplanned : (a b : P) (fault : PlanFault) → (part.meaning a).due ≡ 0 → LookedOver part a b
           → Handed (plan_call (part.meaning a) address bytes (length steps) (length sent)) (Err fault) steps steps' sent sent'
           → Here a b (Err (unplanned_as fault))
       carried-unplanned a b fault q look h = go (answer a) refl (handed a (Err fault) (eq-eqb _ _ q) h)
@@ -149,7 +150,7 @@ module _ {P : Type 0} (part : Ghosts P)
       ended cost (Err fault) = Err (unrun_as fault)
 
       module _ (a mid : P) (cost : ℕ × ℕ) (plan : Plan a cost) (q : (part.meaning a).due ≡ 0) (on' : allowed limit ≡ true)
-          (look : Planned part a mid) where
+          (look : LookedOver part a mid) where
         abbrev list : List Step
         list = plan.list
 
@@ -184,7 +185,7 @@ module _ {P : Type 0} (part : Ghosts P)
 
       -- a plan that was handed out, and the run of the buffers' fronts, as long as its cost says
       pub carried-ran : (a mid to : P) (cost : ℕ × ℕ) (n d : ℕ) (r : Result ℕ RunFault) → Sound (part.meaning a) → ((i : ℕ) → get_or bytes i 0 < 256)
-          → allowed limit ≡ true → (part.meaning a).due ≡ 0 → Planned part a mid
+          → allowed limit ≡ true → (part.meaning a).due ≡ 0 → LookedOver part a mid
           → Handed (plan_call (part.meaning a) address bytes (length steps) (length sent)) (Ok cost) steps steps' sent sent'
           → ◌≡◌ {A = ℕ × ℕ} (n, d) cost → Ran part (take d sent') limit (take n steps') mid to r → Here a to (ended cost r)
       carried-ran a mid to cost n d r S small on' q look h e x =

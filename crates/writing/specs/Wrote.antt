@@ -2,6 +2,7 @@
 use Rattle.std.specs.Prelude.{◌≡◌, ℕ, ◌+◌, ◌*◌, ◌<◌, ◌≤◌, true, false, List, [], ◌∷◌, ◌++◌, length, take, drop, Ok, Err, Result}
 use Rattle.memory.specs.Shape.{size}
 use Rattle.part.specs.declared.part.Part.{Ghosts}
+use Rattle.part.specs.Limit.{allowed}
 use Rattle.part.specs.Meaning as of_part
 use Rattle.part.specs.Meaning.{Meaning, Event}
 use Rattle.least.specs.declared.step.Step.{Step}
@@ -9,7 +10,7 @@ use Rattle.least.specs.Writes.{Answer, refused, planned, plan_write}
 use Rattle.least.specs.Theorems.{Says}
 use Rattle.planner.specs.Waits.{Polls}
 use Rattle.planner.specs.Looking.{LookedBy}
-use Rattle.planner.specs.Running.{Carries, Sends, allowed}
+use Rattle.planner.specs.Running.{Carries, Sends}
 use Rattle.writing.specs.declared.fault.WriteFault.{WriteFault}
 use Rattle.writing.specs.declared.fault.WriteFault.TheVariants.{Limit, Outside, StillBusy, Abandoned}
 use Rattle.writing.specs.WriteRows.{row}
@@ -38,8 +39,8 @@ Filled b list fresh = (b.steps' ≡ list ++ drop (length list) b.steps) × (b.se
 
 module _ {P : Type 0} (part : Ghosts P) where
   -- looked at for planning: at most three times the bytes of its image are asked for, and no poll is made
-  abbrev pub Planned : P → P → Type 0
-  Planned from to = LookedBy part (3 * size (part.meaning from).shape) from to
+  abbrev pub LookedOver : P → P → Type 0
+  LookedOver from to = LookedBy part (3 * size (part.meaning from).shape) from to
 
   module _ (limit address : ℕ) (bytes : List ℕ) (b : Buffers) where
     -- a write to a part with nothing due
@@ -47,16 +48,16 @@ module _ {P : Type 0} (part : Ghosts P) where
       -- planning refuses it: nothing is sent, and all is as it was
       unplanned : (fault : WriteFault)
           → plan_over (part.meaning from) address bytes (length b.steps) (length b.sent) ≡ refused (row fault)
-          → Planned from to → Left b → Carried from to (Err fault)
+          → LookedOver from to → Left b → Carried from to (Err fault)
       -- the plan was sent, and each step waited for
       written : {ready : P} (cost : ℕ × ℕ) (list : List Step) (fresh : List ℕ)
           → plan_over (part.meaning from) address bytes (length b.steps) (length b.sent) ≡ planned cost list fresh
-          → Filled b list fresh → Planned from ready → Sends part fresh limit ready list to → Carried from to (Ok cost)
+          → Filled b list fresh → LookedOver from ready → Sends part fresh limit ready list to → Carried from to (Ok cost)
       -- its steps up to this one were sent, after which more polls were due than the limit's, which were made
       abandoned : {ready before still : P} (k : ℕ) (s : Step) (cost : ℕ × ℕ) (list : List Step) (fresh : List ℕ)
           → plan_over (part.meaning from) address bytes (length b.steps) (length b.sent) ≡ planned cost list fresh
           → Filled b list fresh → k < length list → take (k + 1) list ≡ take k list ++ s ∷ []
-          → Planned from ready → Sends part fresh limit ready (take k list) before → (part.meaning before).due ≡ 0
+          → LookedOver from ready → Sends part fresh limit ready (take k list) before → (part.meaning before).due ≡ 0
           → Carries part fresh s before still → limit < (part.meaning still).due → Polls part limit still to
           → Carried from to (Err (Abandoned (k + 1)))
 

@@ -23,7 +23,7 @@ pub enum WriteFault {
     DataShort(Cost),
     // polls were due beyond the limit after a cycle: the write was abandoned; the cycles sent
     Abandoned(usize),
-    // the part refused a step of the plan, which no intact part does; steps count from 0
+    // the part refused a step of the plan, which never happens; steps count from 0
     Refused { step: usize, fault: PartFault },
 }
 

@@ -1,7 +1,7 @@
 // A write to any part.
 ghost use Rattle.std.specs.Prelude.{◌≡◌, ℕ, ◌+◌, ◌<◌, ◌≤◌, true, List, length, slice_index};
 ghost use Rattle.memory.specs.Shape.{size};
-ghost use Rattle.planner.specs.Running.{allowed};
+ghost use Rattle.part.specs.Limit.{allowed};
 ghost use Rattle.writing.specs.Wrote.{Carried, Wrote, buffers};
 
 use crate::fault::WriteFault;

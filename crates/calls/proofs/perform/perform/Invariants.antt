@@ -1,5 +1,5 @@
 use Rattle.std.proofs.Common.{◌≡◌, take, drop}
-use Rattle.calls.specs.Requests.{Records}
+use Rattle.calls.specs.Records.{Records}
 use Rattle.calls.specs.History.{state}
 use Rattle.calls.proofs.Histories.{SoFar}
 use Rattle.calls.proofs.perform.perform.Given as goal
