@@ -101,7 +101,7 @@ back-again : (a : ℕ) → a < 16777216 → a / 256 / 256 % 256 * 65536 + a / 25
 back-again a h = omega arith
 
 -- a frame with three bytes of address and data
-page-frame : (i : Instruction) (b2 b1 b0 wanted : ℕ) (sent : List ℕ) → i.has_data ≡ true → i.address_bytes + i.dummy_bytes ≡ 3 → 0 < length sent
+pub page-frame : (i : Instruction) (b2 b1 b0 wanted : ℕ) (sent : List ℕ) → i.has_data ≡ true → i.address_bytes + i.dummy_bytes ≡ 3 → 0 < length sent
     → shaped_by (Some i) (length (b2 ∷ b1 ∷ b0 ∷ sent)) wanted (address_in (b2 ∷ b1 ∷ b0 ∷ sent)) (data_in (b2 ∷ b1 ∷ b0 ∷ sent))
     ≡ cond (allows i.back wanted) (meant i.operation (b2 * 65536 + b1 * 256 + b0) sent) unknown
 page-frame i b2 b1 b0 wanted sent c z h =

@@ -3,18 +3,21 @@ use Rattle.std.proofs.Common.{◌≡◌, ℕ, zero, suc, ◌+◌, ◌/◌, ◌%�
 use lib.Bits.{bit_and}
 use Rattle.std.proofs.lemmas.Bool.{and_parts, both_ways, cond-true, cond-false, eqb-true, ne_eqb, ltb-true, not-true}
 use Rattle.std.proofs.lemmas.Option.{cond_some, none-some}
+use Rattle.std.proofs.lemmas.List.{get_or-replicate}
 use Rattle.memory.specs.Shape.{sector_at, size}
 use Rattle.memory.specs.Protection.{protects}
 use Rattle.memory.specs.Cycle.{Cycle, program, alter, preset, sector_erase, bulk_erase, effect, replacing}
 use Rattle.memory.specs.Image.{rolled, reaches}
 use Rattle.memory.proofs.Loops.{rolled_more}
-use Rattle.memory.proofs.Models.{known_real}
+use Rattle.memory.proofs.Models.{known_real, page-bytes}
 use Rattle.memory.proofs.Pages.{Real}
 use Rattle.memory.proofs.Protected.{none_protected}
 use Rattle.memory.proofs.Off.{written_off, erased_off}
 use Rattle.port.specs.Chip.{Chip, Sound, shape}
 use Rattle.port.specs.Machine.{Ask, enable, disable, status, identify, read, cycle, unknown, Frame, hears, heard, inside, polled, ordered, takes, opens, reply, answer, act, after, done}
-use Rattle.port.specs.Laws.{starts, carried_by, Within, Needs, MachineLaws}
+use Rattle.port.specs.Laws.{starts, carried_by, Within, Needs, Leaves, MachineLaws}
+use Rattle.port.proofs.Codes.{codes, polls, no_other, no_code, on_chip}
+use Rattle.port.proofs.Placed.{lays, erases}
 use Rattle.port.proofs.Taken.{latched_for, needed, taken}
 use Rattle.port.proofs.Answered.{length-reply, shows, identifies, identifies-three}
 
@@ -117,6 +120,18 @@ module _ (c : Chip) (S : Sound c) where
       let r = heard-reaches c.busy (length c.image) (ordered f.sent f.wanted) y (started c (hears c f) y e).0 in
       ap (λ l. get_or l i 0) (cycle-image k c f y e) ∙ elsewhere_by y r i n
 
+  leaves_by : (y : Cycle) → reaches (length c.image) y ≡ true → Leaves c y (effect (shape c) y c.image)
+  leaves_by (program a d) r = lays (shape c) R c.image S.imaged.whole bit_and a d (ltb-true _ _ r)
+  leaves_by (alter a d) r = lays (shape c) R c.image S.imaged.whole replacing a d (ltb-true _ _ r)
+  leaves_by (preset a d) r = lays (shape c) R c.image S.imaged.whole bit_and a d (ltb-true _ _ r)
+  leaves_by (sector_erase a) r = λ i e. erases (shape c) R c.image S.imaged.whole a i (ltb-true _ _ r) e
+  leaves_by bulk_erase r = λ i h. get_or-replicate (length c.image) i 255 0 h
+
+  pub leaves : (k : ℕ) (f : Frame) (y : Cycle) → carried_by c f ≡ Some y → Leaves c y (after k c f).image
+  leaves k f y e =
+      subst (Leaves c y) (sym (cycle-image k c f y e))
+      (leaves_by y (heard-reaches c.busy (length c.image) (ordered f.sent f.wanted) y (started c (hears c f) y e).0))
+
   -- an open address is in no protected sector
   apart : (a i : ℕ) → opens c a ≡ true → protects c.status (shape c).sectors (sector_at (shape c) i) ≡ true → sector_at (shape c) i ≡ sector_at (shape c) a → ⊥
   apart a i o p e =
@@ -200,8 +215,15 @@ lawful =
       ignored = ignored;
       turned_down = turned_down;
       busy = busy;
+      codes = codes;
+      polls = polls;
+      no_other = no_other;
+      no_code = no_code;
+      on_chip = on_chip;
       idle-image = idle-image;
       cycle-image = cycle-image;
+      leaves = λ k c S. leaves c S k;
+      page = λ c. page-bytes c.capacity;
       elsewhere = λ k c S. elsewhere c S k;
       protected = λ k c S. protected c S k;
       latch = λ k c f. latch-act k c (hears c f);

@@ -2,6 +2,8 @@ pub mod Frames
 pub mod Hearing
 pub mod Lawful
 pub mod Building
-pub mod Settled
+mod Codes
+pub mod Placed
+mod Settled
 pub mod Taken
 pub mod Answered

@@ -1,5 +1,5 @@
 -- What a reader of the data sheet would ask of the machine.
-use Rattle.std.specs.Prelude.{◌≡◌, ℕ, ◌+◌, ◌-◌, ◌/◌, ◌%◌, ◌<◌, ◌≤◌, true, false, cond, ◌⊎◌, [], ◌∷◌, length, take, replicate, Some, None, Option, ◌≢◌, ◌==◌, slice_index}
+use Rattle.std.specs.Prelude.{◌≡◌, ℕ, ◌+◌, ◌-◌, ◌*◌, ◌/◌, ◌%◌, ◌<◌, ◌≤◌, true, false, cond, ◌⊎◌, List, [], ◌∷◌, length, take, replicate, Some, None, Option, ◌≢◌, ◌==◌, bit_and, slice_index}
 use Rattle.memory.specs.Shape.{sector_at}
 use Rattle.memory.specs.Protection.{protects}
 use Rattle.memory.specs.Cycle.{Cycle, program, alter, preset, sector_erase, bulk_erase, effect}
@@ -42,6 +42,78 @@ Needs c (preset address sent) =
 Needs c (sector_erase address) = Open c address
 Needs c bulk_erase = (c.status / 64 % 2 ≡ 0) × (c.status / 4 % 8 ≡ 0)
 
+-- where data byte j of a page cycle at an address goes, with pages of z bytes: the data come round at the end of the page
+abbrev pub place : ℕ → ℕ → ℕ → ℕ
+place z address j = address / z * z + (address + j) % z
+
+-- the data lie each at its place, as f of the byte that was there and the one sent: of two for one place the later one does. A
+-- place that none is for holds what it held
+abbrev pub Lays : (ℕ → ℕ → ℕ) → ℕ → ℕ → List ℕ → List ℕ → List ℕ → Type 0
+Lays f z address sent was now =
+    ((j : ℕ) → j < length sent → ((l : ℕ) → j < l → l < length sent → place z address l ≢ place z address j)
+    → slice_index now (place z address j) ≡ f (slice_index was (place z address j)) (slice_index sent j))
+    × ((i : ℕ) → ((j : ℕ) → j < length sent → place z address j ≢ i) → slice_index now i ≡ slice_index was i)
+
+-- the image that each cycle leaves, byte by byte
+abbrev pub Leaves : Chip → Cycle → List ℕ → Type 0
+Leaves c (program address sent) now = Lays bit_and (shape c).bytes address sent c.image now
+Leaves c (alter address sent) now = Lays (λ old new. new) (shape c).bytes address sent c.image now
+Leaves c (preset address sent) now = Lays bit_and (shape c).bytes address sent c.image now
+Leaves c (sector_erase address) now = (i : ℕ) → sector_at (shape c) i ≡ sector_at (shape c) address → slice_index now i ≡ 255
+Leaves c bulk_erase now = (i : ℕ) → i < length c.image → slice_index now i ≡ 255
+
+-- an address in its three bytes, the highest first
+abbrev pub spelt : ℕ → ℕ → ℕ → ℕ
+spelt a2 a1 a0 = a2 * 65536 + a1 * 256 + a0
+
+-- a frame of this code, the bytes of an address that is inside, and the rest is heard as that order of the address
+abbrev pub HeardAt : Chip → ℕ → List ℕ → ℕ → (ℕ → Ask) → Type 0
+HeardAt c code rest wanted order =
+    (a2 a1 a0 : ℕ) → spelt a2 a1 a0 < length c.image → hears c (frame (code ∷ a2 ∷ a1 ∷ a0 ∷ rest) wanted) ≡ order (spelt a2 a1 a0)
+
+-- the frames that an idle chip hears, beside read status
+pub record Hears (c : Chip) : Type 0 where
+  pub enables : hears c (frame (0x06 ∷ []) 0) ≡ enable
+  pub disables : hears c (frame (0x04 ∷ []) 0) ≡ disable
+  pub identified : (n : ℕ) → n ≤ 3 → hears c (frame (0x9F ∷ []) n) ≡ identify
+  pub reads : (n : ℕ) → HeardAt c 0x03 [] n read
+  -- after one dummy byte
+  pub reads_fast : (n dummy : ℕ) → HeardAt c 0x0B (dummy ∷ []) n read
+  -- one byte of data or more
+  pub programs : (x : ℕ) (xs : List ℕ) → HeardAt c 0x02 (x ∷ xs) 0 (λ a. cycle (program a (x ∷ xs)))
+  pub alters : (x : ℕ) (xs : List ℕ) → HeardAt c 0x22 (x ∷ xs) 0 (λ a. cycle (alter a (x ∷ xs)))
+  pub presets : (x : ℕ) (xs : List ℕ) → HeardAt c 0xD1 (x ∷ xs) 0 (λ a. cycle (preset a (x ∷ xs)))
+  pub erases : HeardAt c 0xD8 [] 0 (λ a. cycle (sector_erase a))
+  pub erases-all : hears c (frame (0xC7 ∷ []) 0) ≡ cycle bulk_erase
+
+-- the address of what is heard, if it has one, lies on the chip
+abbrev pub OnChip : Chip → Ask → Type 0
+OnChip c enable = Unit {0}
+OnChip c disable = Unit {0}
+OnChip c status = Unit {0}
+OnChip c identify = Unit {0}
+OnChip c (read address) = address < length c.image
+OnChip c (cycle (program address sent)) = address < length c.image
+OnChip c (cycle (alter address sent)) = address < length c.image
+OnChip c (cycle (preset address sent)) = address < length c.image
+OnChip c (cycle (sector_erase address)) = address < length c.image
+OnChip c (cycle bulk_erase) = Unit {0}
+OnChip c unknown = Unit {0}
+
+-- the shapes of frame that the data sheet lists: a code, how many bytes follow it, and how many are wanted back
+pub data Listed : ℕ → ℕ → ℕ → Type 0 where
+  code_06 : Listed 0x06 0 0
+  code_04 : Listed 0x04 0 0
+  code_05 : {wanted : ℕ} → Listed 0x05 0 wanted
+  code_9F : {wanted : ℕ} → wanted ≤ 3 → Listed 0x9F 0 wanted
+  code_03 : {wanted : ℕ} → Listed 0x03 3 wanted
+  code_0B : {wanted : ℕ} → Listed 0x0B 4 wanted
+  code_02 : {after : ℕ} → 3 < after → Listed 0x02 after 0
+  code_22 : {after : ℕ} → 3 < after → Listed 0x22 after 0
+  code_D1 : {after : ℕ} → 3 < after → Listed 0xD1 after 0
+  code_D8 : Listed 0xD8 3 0
+  code_C7 : Listed 0xC7 0 0
+
 -- a byte that read status gives: bits 7 to 2 are those of the status, bit 0 (WIP) is 1 exactly while busy, and bit 1 (WEL) is
 -- the latch while idle
 abbrev pub Shows : Chip → ℕ → Type 0
@@ -56,9 +128,22 @@ pub record MachineLaws : Type 0 where
       → (after k c f ≡ c) × (answer w c f ≡ replicate f.wanted 255)
   -- while busy only read status is not ignored
   pub busy : (c : Chip) (f : Frame) → 0 < c.busy → (hears c f ≡ status) ⊎ (hears c f ≡ unknown)
+  -- what a frame of each code is heard as
+  pub codes : (c : Chip) → c.busy ≡ 0 → Hears c
+  -- read status, idle or busy
+  pub polls : (c : Chip) (n : ℕ) → hears c (frame (0x05 ∷ []) n) ≡ status
+  -- a frame of any other code or shape is ignored
+  pub no_other : (c : Chip) (code : ℕ) (rest : List ℕ) (n : ℕ) → (Listed code (length rest) n → ⊥) → hears c (frame (code ∷ rest) n) ≡ unknown
+  pub no_code : (c : Chip) (n : ℕ) → hears c (frame [] n) ≡ unknown
+  -- nor is anything heard of an address past the end
+  pub on_chip : (c : Chip) (f : Frame) → OnChip c (hears c f)
   -- nothing but a cycle that is carried out alters the image, and then it is the cycle's effect
   pub idle-image : (k : ℕ) (c : Chip) (f : Frame) → carried_by c f ≡ None → (after k c f).image ≡ c.image
   pub cycle-image : (k : ℕ) (c : Chip) (f : Frame) (y : Cycle) → carried_by c f ≡ Some y → (after k c f).image ≡ effect (shape c) y c.image
+  -- which leaves this at each place
+  pub leaves : (k : ℕ) (c : Chip) → Sound c → (f : Frame) (y : Cycle) → carried_by c f ≡ Some y → Leaves c y (after k c f).image
+  -- in pages of 64 bytes
+  pub page : (c : Chip) → (shape c).bytes ≡ 64
   -- a cycle alters only its page, its sector or, for bulk, all
   pub elsewhere : (k : ℕ) (c : Chip) → Sound c → (f : Frame) (y : Cycle) → carried_by c f ≡ Some y
       → (i : ℕ) → (Within c y i → ⊥) → slice_index (after k c f).image i ≡ slice_index c.image i
