@@ -9,7 +9,6 @@ use Rattle.memory.specs.Page.{block, put}
 use Rattle.memory.specs.Cycle.{Cycle, Goes, accepts, accepted, effect, leads}
 use Rattle.part.specs.declared.fault.PartFault.{PartFault}
 use Rattle.part.specs.Meaning.{Meaning, protected_at}
-use Rattle.part.specs.Verdict.{clean_at}
 use Rattle.part.proofs.Accepting.{accepting}
 use Rattle.least.specs.declared.step.Step.{Step}
 use Rattle.least.specs.Barred.{lowest_barred}
