@@ -11,7 +11,7 @@ use Rattle.calls.specs.Requests.{asks, buffer}
 use Rattle.calls.specs.Records.{Recorded, Records}
 use Rattle.calls.specs.Reference.{Reference}
 use Rattle.calls.specs.Law.{Law}
-use Rattle.calls.specs.History.{History, State, none, more, between, fed_by, fed_all, state, Agrees, Follows, start}
+use Rattle.calls.specs.History.{History, State, none, more, between, fed_by, state, Agrees, Follows, start}
 
 -- one more call was made
 pub records_more : (before after : List Entry) (b a : Entry) → Records before after → Recorded b a → Records (before ++ b ∷ []) (after ++ a ∷ [])
@@ -42,6 +42,11 @@ module _ (n : ℕ) (xs ys : List Entry) (d y : Entry) (inside : n < length ys) (
       let p = both in
       let e : drop (suc n) ys ≡ drop (suc n) xs = cc in
       ap (λ m. drop m (set ys n y)) one ∙ (drop-set-lt (suc n) ys n y (omega arith) ∙ (e ∙ sym (ap (λ m. drop m xs) one)))
+
+-- the reference after several
+abbrev pub fed_all : Reference → List Entry → Reference
+fed_all ref [] = ref
+fed_all ref (e ∷ es) = fed_all (fed_by ref e) es
 
 pub fed_more : (ref : Reference) (es : List Entry) (e : Entry) → fed_all ref (es ++ e ∷ []) ≡ fed_by (fed_all ref es) e
 fed_more ref [] e = refl

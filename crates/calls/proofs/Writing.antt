@@ -20,26 +20,28 @@ use Rattle.planner.proofs.Doings.{did_polls, did_step, did_join, sends_did}
 use Rattle.writing.proofs.Carrying.{did_looked, did_over, polls-idle, sends-idle}
 use Rattle.writing.proofs.Unrefused.{Made, planned-made}
 use Rattle.writing.specs.declared.fault.WriteFault.{WriteFault}
-use Rattle.writing.specs.declared.fault.WriteFault.TheVariants.{Limit, Outside, StillBusy, Protected, StepsShort, DataShort}
+use Rattle.writing.specs.declared.fault.WriteFault.TheVariants.{Limit, Outside, StillBusy, Protected, StepsShort, DataShort, Abandoned}
 use Rattle.writing.specs.WriteRows.{row}
-use Rattle.writing.specs.Wrote.{Buffers, Left, Filled, LookedOver, plan_over, Carried, unplanned, written, abandoned, Wrote, no_limit, outside, still-busy, waited}
+use Rattle.writing.specs.Wrote.{Buffers, Left, Filled, LookedOver, plan_over, planned_cycles, Carried, unplanned, written, abandoned, Wrote, no_limit, outside, still-busy, waited}
 use Rattle.calls.specs.declared.call.Refusal.TheVariants.{Write}
 use Rattle.calls.specs.declared.call.Answer.{Answer}
 use Rattle.calls.specs.declared.call.Answer.TheVariants as answers
-use Rattle.calls.specs.Refusals.{write_answer}
-use Rattle.calls.specs.Requests.{writing}
+use Rattle.calls.specs.Refusals.{write_answer, answer_row, came_of}
+use Rattle.calls.specs.Requests.{writing, refused}
 use Rattle.calls.specs.Causes.{Passes, WriteCause}
 use Rattle.calls.specs.Effects.{Begun, Paced, none, more, RefusedWrite, Roomy}
 use Rattle.calls.specs.Law.{ProtectedLaw, fencing, meant, Traced}
 use Rattle.calls.proofs.Owing.{Owed, holds_moved, holds_put}
 use Rattle.calls.proofs.Rows.{same_row}
 
--- a plan that is handed out is the steps and the data of its cycles
-made_filled : (b : Buffers) (list : List Step) (fresh : List ℕ) → Made list fresh → Filled b list fresh
+-- steps and data that were made of cycles are these cycles again
+made_is : (list : List Step) (fresh : List ℕ) (ys : List Cycle) → Made list fresh ys → cycles_of fresh list ≡ ys
+made_is list fresh ys made = ap₂ cycles_of made.bytes made.steps ∙ (steps_are_cycles ys).0
+
+made_filled : (b : Buffers) (list : List Step) (fresh : List ℕ) (ys : List Cycle) → Made list fresh ys → Filled b list fresh
     → Filled b (steps_of (cycles_of fresh list)) (data_of (cycles_of fresh list))
-made_filled b list fresh made filled =
-    let ys = made.cycles in
-    let e : cycles_of fresh list ≡ ys = ap₂ cycles_of made.bytes made.steps ∙ (steps_are_cycles ys).0 in
+made_filled b list fresh ys made filled =
+    let e = made_is list fresh ys made in
     let u : steps_of (cycles_of fresh list) ≡ list = ap steps_of e ∙ sym made.steps in
     let v : data_of (cycles_of fresh list) ≡ fresh = ap data_of e ∙ sym made.bytes in
     subst (λ (l : List Step). Filled b l (data_of (cycles_of fresh list))) (sym u) (subst (λ (x : List ℕ). Filled b list x) (sym v) filled)
@@ -73,13 +75,24 @@ module _ {P : Type 0} (part : Ghosts P)
     abbrev Owes : Fence P → Answer → Fence P → Type 0
     Owes f answer g = (held : List ℕ) → Owed part b f (writing address bytes limit) held answer g
 
+    -- no refusal has number 8
+    numbered : (f : Fence P) (fault : WriteFault) → WriteCause (m f) steps room address bytes limit fault
+        → refused ≡ came_of (answer_row (answers.Refused (Write fault)))
+    numbered f (Limit n) c = refl
+    numbered f (Outside a) c = refl
+    numbered f (StillBusy n) c = refl
+    numbered f (Protected a) c = refl
+    numbered f (StepsShort cost) c = refl
+    numbered f (DataShort cost) c = refl
+    numbered f (Abandoned n) c = absurd c
+
     -- a refusal: nothing alters
     refused_owed : (f g : Fence P) (fault : WriteFault) → g.closed ≡ f.closed → (m g).image ≡ (m f).image → RefusedWrite fence fault f g → Left b
         → ProtectedLaw part f (writing address bytes limit) (answers.Refused (Write fault))
         → WriteCause (m f) steps room address bytes limit fault → Owes f (answers.Refused (Write fault)) g
     refused_owed f g fault shut same u left p c held =
         record {
-          law = λ ref a. record { closed = shut ∙ a.closed; reads = tt; effect = (u, left); protected = p; cause = c };
+          law = λ ref a. record { numbered = numbered f fault c; closed = shut ∙ a.closed; reads = tt; effect = (u, left); protected = p; cause = c };
           agrees = λ ref a. record { image = holds_moved ref.image _ _ same a.image; closed = shut ∙ a.closed };
         }
 
@@ -107,8 +120,8 @@ module _ {P : Type 0} (part : Ghosts P)
 
     module _ (f g : Fence P) (passes : Passes (m f) address (length bytes) limit) where
       -- a refusal told by the row of another is that one
-      owed_as : (fault known : WriteFault) → (row known).layer ≡ 1 → row fault ≡ row known → Owes f (write_answer (Err known)) g → Owes f (write_answer (Err fault)) g
-      owed_as fault known l e o = subst (λ (w : WriteFault). Owes f (write_answer (Err w)) g) (sym (same_row fault known l e)) o
+      owed_as : (fault known : WriteFault) → row fault ≡ row known → Owes f (write_answer (Err known)) g → Owes f (write_answer (Err fault)) g
+      owed_as fault known e o = subst (λ (w : WriteFault). Owes f (write_answer (Err w)) g) (sym (same_row fault known e)) o
 
       -- planning refuses: by what it says, with the fault that has its row
       unplanned_owed : (fault : WriteFault) (x : writes.Answer) → SaysOf (m f) x → x ≡ writes.refused (row fault) → g.closed ≡ f.closed → (m g).image ≡ (m f).image
@@ -116,12 +129,12 @@ module _ {P : Type 0} (part : Ghosts P)
       unfolding SaysOf
       unplanned_owed fault _ (theorems.outside past) e shut same u left = absurd (omega (arith, past, passes.inside))
       unplanned_owed fault _ (theorems.barred a inside lowest nothing) e shut same u left =
-          owed_as fault (Protected a) refl (cc) (refused_owed f g (Protected a) shut same u left (λ _. (λ _. nothing, λ _. refl)) (passes, lowest))
+          owed_as fault (Protected a) (cc) (refused_owed f g (Protected a) shut same u left (λ _. (λ _. nothing, λ _. refl)) (passes, lowest))
       unplanned_owed fault _ (theorems.few-steps l cost inside by short) e shut same u left =
-          owed_as fault (StepsShort cost) refl (cc)
+          owed_as fault (StepsShort cost) (cc)
           (refused_owed f g (StepsShort cost) shut same u left (λ _. (λ z. absurd (omega arith), λ nothing. absurd (nothing l by.goes))) (passes, (l, by), short))
       unplanned_owed fault _ (theorems.few_data l cost inside by enough short) e shut same u left =
-          owed_as fault (DataShort cost) refl (cc)
+          owed_as fault (DataShort cost) (cc)
           (refused_owed f g (DataShort cost) shut same u left (λ _. (λ z. absurd (omega arith), λ nothing. absurd (nothing l by.goes))) (passes, (l, by), enough, short))
       unplanned_owed fault _ (theorems.written cost list fresh inside least counts few short) e shut same u left =
           let z : ◌≡◌ {A = ℕ} 0 1 = cc in absurd (omega arith)
@@ -136,6 +149,7 @@ module _ {P : Type 0} (part : Ghosts P)
 
       module _ (ready : Fence P) (begins : Begun fence f ready) (cost : ℕ × ℕ) (list : List Step) (fresh : List ℕ)
           (plan : Least f (cycles_of fresh list) cost × Roomy b cost) (filled : Filled b (steps_of (cycles_of fresh list)) (data_of (cycles_of fresh list)))
+          (defined : cycles_of fresh list ≡ planned_cycles (m f) address bytes)
         where
           written_owed : Did fence [] (cycles_of fresh list) f g → Sends fence fresh limit ready list g → (m g).due ≡ 0 → Owes f (answers.Written cost) g
           written_owed d sends quiet held =
@@ -143,6 +157,7 @@ module _ {P : Type 0} (part : Ghosts P)
               record {
                 law = λ ref a.
                     record {
+                      numbered = refl;
                       closed = d.happened.0 ∙ a.closed;
                       reads = tt;
                       effect =
@@ -158,6 +173,7 @@ module _ {P : Type 0} (part : Ghosts P)
                             accepted = plan.0.goes;
                             costs = plan.0.costs;
                             least = plan.0.least;
+                            planned = defined;
                             room = plan.1;
                             filled = filled;
                           };
@@ -179,6 +195,7 @@ module _ {P : Type 0} (part : Ghosts P)
               record {
                 law = λ ref a.
                     record {
+                      numbered = refl;
                       closed = shut ∙ a.closed;
                       reads = tt;
                       effect =
@@ -207,6 +224,7 @@ module _ {P : Type 0} (part : Ghosts P)
                             plan = cycles_of fresh list;
                             cost = cost;
                             least = plan.0;
+                            planned = defined;
                             first = take-map (step_cycle fresh) (k + 1) list ∙ (ap (cycles_of fresh) split ∙ map-append (step_cycle fresh) (take k list) (s ∷ []));
                             room = plan.1;
                             filled = filled;
@@ -236,8 +254,14 @@ module _ {P : Type 0} (part : Ghosts P)
         quiet : (m idle).due ≡ 0
         quiet = polls-idle fence stay join f idle p
 
-        made : (cost : ℕ × ℕ) (list : List Step) (fresh : List ℕ) → plan_over (m idle) address bytes steps room ≡ writes.planned cost list fresh → Made list fresh
+        made : (cost : ℕ × ℕ) (list : List Step) (fresh : List ℕ) → plan_over (m idle) address bytes steps room ≡ writes.planned cost list fresh
+            → Made list fresh (planned_cycles (m idle) address bytes)
         made cost list fresh e = planned-made cost list fresh (m idle).shape (protected_at (m idle)) (m idle).image address bytes steps room e
+
+        defined : (cost : ℕ × ℕ) (list : List Step) (fresh : List ℕ) → plan_over (m idle) address bytes steps room ≡ writes.planned cost list fresh
+            → cycles_of fresh list ≡ planned_cycles (m f) address bytes
+        defined cost list fresh e =
+            subst (λ (x : Meaning). cycles_of fresh list ≡ planned_cycles x address bytes) p.leaves (made_is list fresh _ (made cost list fresh e))
 
         go : (r : Result (ℕ × ℕ) WriteFault) → Carried fence limit address bytes b idle g r → Owes f (write_answer r) g
         go _ (unplanned fault e look left) =
@@ -245,11 +269,11 @@ module _ {P : Type 0} (part : Ghosts P)
             (look.asked.1.0 ∙ p.made.0) (ap (λ (x : Meaning). x.image) look.same ∙ polls-image (m f).due f idle p) (begun g look) left
         go _ (written {ready = ready} cost list fresh e filled look sends) =
             written_owed f g passes ready (begun ready look) cost list fresh (plan_of f g passes cost list fresh (says_before (m f).due f idle _ p says e))
-            (made_filled b list fresh (made cost list fresh e) filled) (did_after (m f).due _ f idle ready g fresh list p look sends) sends
+            (made_filled b list fresh _ (made cost list fresh e) filled) (defined cost list fresh e) (did_after (m f).due _ f idle ready g fresh list p look sends) sends
             (sends-idle fence stay join (ap (λ (x : Meaning). x.due) look.same ∙ quiet) sends)
         go _ (abandoned {ready = ready} {before = before} {still = still} k s cost list fresh e filled lt split look sends idle' step over stop) =
             abandoned_owed f g passes ready (begun ready look) cost list fresh (plan_of f g passes cost list fresh (says_before (m f).due f idle _ p says e))
-            (made_filled b list fresh (made cost list fresh e) filled) before still k s lt split
+            (made_filled b list fresh _ (made cost list fresh e) filled) (defined cost list fresh e) before still k s lt split
             (did_after (m f).due _ f idle ready before fresh (take k list) p look sends) sends idle' step over stop
 
     pub write_owed : (f g : Fence P) (r : Result (ℕ × ℕ) WriteFault) → Wrote fence limit address bytes b f g r → Owes f (write_answer r) g

@@ -9,7 +9,7 @@ use Rattle.least.specs.Theorems.{LeastBy}
 use Rattle.part.specs.Limit.{allowed}
 use Rattle.planner.specs.Looking.{wanted}
 use Rattle.writing.specs.declared.fault.WriteFault.{WriteFault}
-use Rattle.writing.specs.declared.fault.WriteFault.TheVariants.{Limit, Outside, StillBusy, Protected, StepsShort, DataShort, Abandoned, Refused}
+use Rattle.writing.specs.declared.fault.WriteFault.TheVariants.{Limit, Outside, StillBusy, Protected, StepsShort, DataShort, Abandoned}
 use Rattle.calls.specs.declared.call.Refusal.{Refusal}
 use Rattle.calls.specs.declared.call.Refusal.TheVariants.{Part, Write}
 use Rattle.calls.specs.Requests.{Request, closing, opening, reading, writing}
@@ -44,9 +44,8 @@ WriteCause m steps room address bytes limit (StepsShort cost) =
     Passes m address (length bytes) limit × Costs m address bytes cost × (steps < cost.0)
 WriteCause m steps room address bytes limit (DataShort cost) =
     Passes m address (length bytes) limit × Costs m address bytes cost × (cost.0 ≤ steps) × (room < cost.1)
--- an abandoned write is not refused, and no step of a plan ever is
+-- an abandoned write is not refused
 WriteCause m steps room address bytes limit (Abandoned n) = ⊥
-WriteCause m steps room address bytes limit (Refused step fault) = ⊥
 
 -- why a call is refused
 abbrev pub Cause : Meaning → ℕ → ℕ → Request → Refusal → Type 0

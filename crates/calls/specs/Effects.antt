@@ -10,9 +10,9 @@ use Rattle.least.specs.Steps.{steps_of, data_of}
 use Rattle.least.specs.Theorems.{LeastBy}
 use Rattle.planner.specs.Looking.{LookedBy, wanted}
 use Rattle.planner.specs.Waits.{Polls}
-use Rattle.writing.specs.Wrote.{Buffers, Filled}
+use Rattle.writing.specs.Wrote.{Buffers, Filled, planned_cycles}
 use Rattle.writing.specs.declared.fault.WriteFault.{WriteFault}
-use Rattle.writing.specs.declared.fault.WriteFault.TheVariants.{Limit, Outside, StillBusy, Protected, StepsShort, DataShort, Abandoned, Refused}
+use Rattle.writing.specs.declared.fault.WriteFault.TheVariants.{Limit, Outside, StillBusy, Protected, StepsShort, DataShort, Abandoned}
 use Rattle.calls.specs.Causes.{Leads, Passes}
 
 -- room in the step list and in the data buffer for a plan of this cost
@@ -48,11 +48,10 @@ module _ {F : Type 0} (part : Ghosts F) where
   RefusedWrite (StepsShort cost) f g = Begun f g
   RefusedWrite (DataShort cost) f g = Begun f g
   RefusedWrite (Abandoned n) f g = ⊥
-  RefusedWrite (Refused step fault) f g = ⊥
 
   module _ (address : ℕ) (bytes : List ℕ) (limit : ℕ) (b : Buffers) where
     -- a done write: it leaves the image wanted and nothing due, its answer is the cost of the cycles that it sent, every accepted list
-    -- that leads there costs at least that, and both buffers begin with the steps and the data of these cycles
+    -- that leads there costs at least that; they are those of the defined plan, whose steps and data both buffers begin with
     pub record DoneWrite (cost : ℕ × ℕ) (f g : F) : Type 0 where
       pub passes : Passes (part.meaning f) address (length bytes) limit
       pub ready : F
@@ -65,12 +64,13 @@ module _ {F : Type 0} (part : Ghosts F) where
       pub accepted : Leads (part.meaning f) sent (wanted (part.meaning f) address bytes)
       pub costs : spent fewest sent ≡ cost
       pub least : (l : List Cycle) → Leads (part.meaning f) l (wanted (part.meaning f) address bytes) → fewest.leq cost (spent fewest l) ≡ true
+      pub planned : sent ≡ planned_cycles (part.meaning f) address bytes
       pub room : Roomy b cost
       pub filled : Filled b (steps_of sent) (data_of sent)
 
     -- an abandoned write: n cycles were sent, and after the last of them more polls were due than the limit; the limit's
-    -- polls were made, and the image is the one that these cycles leave. They are the first of a list of least cost, whose steps and
-    -- data both buffers begin with
+    -- polls were made, and the image is the one that these cycles leave. They are the first of the defined plan, a list of least cost,
+    -- whose steps and data both buffers begin with
     pub record AbandonedWrite (n : ℕ) (f g : F) : Type 0 where
       pub passes : Passes (part.meaning f) address (length bytes) limit
       pub ready : F
@@ -91,6 +91,7 @@ module _ {F : Type 0} (part : Ghosts F) where
       pub plan : List Cycle
       pub cost : ℕ × ℕ
       pub least : LeastBy (part.meaning f).shape (protected_at (part.meaning f)) (part.meaning f).image (wanted (part.meaning f) address bytes) plan cost
+      pub planned : plan ≡ planned_cycles (part.meaning f) address bytes
       pub first : take n plan ≡ sent ++ last ∷ []
       pub room : Roomy b cost
       pub filled : Filled b (steps_of plan) (data_of plan)

@@ -26,17 +26,13 @@ state f s d = record { fence = f; steps = s; sent = d }
 abbrev pub between : {P : Type 0} → State P → State P → Buffers
 between s t = buffers s.steps t.steps s.sent t.sent
 
--- the reference after a call of the record, and after several; a call that was not made changes nothing
+-- the reference after a call of the record; a call that was not made changes nothing
 abbrev pub fed_once : Reference → Request → Option Answer → Reference
 fed_once ref request None = ref
 fed_once ref request (Some answer) = fed ref request (outcome answer)
 
 abbrev pub fed_by : Reference → Entry → Reference
 fed_by ref e = fed_once ref (asks e.call) e.answer
-
-abbrev pub fed_all : Reference → List Entry → Reference
-fed_all ref [] = ref
-fed_all ref (e ∷ es) = fed_all (fed_by ref e) es
 
 module _ {P : Type 0} (part : Ghosts P) where
   -- each call of a record has an answer and keeps the law, at the reference and at the state that those before it leave

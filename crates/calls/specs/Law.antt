@@ -10,7 +10,7 @@ use Rattle.writing.specs.Wrote.{Buffers, Left}
 use Rattle.calls.specs.declared.call.Refusal.TheVariants.{Part, Write}
 use Rattle.calls.specs.declared.call.Answer.{Answer}
 use Rattle.calls.specs.declared.call.Answer.TheVariants.{Done, Written, Refused, Abandoned}
-use Rattle.calls.specs.Refusals.{row}
+use Rattle.calls.specs.Refusals.{row, answer_row, came_of}
 use Rattle.calls.specs.Requests.{Request, closing, opening, reading, writing, outcome}
 use Rattle.calls.specs.Reference.{Reference, fed, Holds}
 use Rattle.planner.specs.Looking.{wanted}
@@ -90,6 +90,8 @@ module _ {P : Type 0} (part : Ghosts P) where
 
   -- of a call that leaves its buffer as `held`, and the step list and the data buffer as the second half of `b` says
   pub record Law (b : Buffers) (ref : Reference) (f : Fence P) (request : Request) (held : List ℕ) (answer : Answer) (g : Fence P) : Type 0 where
+    -- a fault of number 8 is an abandoned call, any other a refused one, and none a done one
+    pub numbered : outcome answer ≡ came_of (answer_row answer)
     pub closed : g.closed ≡ (fed ref request (outcome answer)).closed
     pub reads : ReadLaw ref request held answer
     pub effect : EffectLaw b f request held answer g

@@ -36,7 +36,7 @@ pub enum Refusal {
 }
 
 // No Result: a call that is abandoned is neither done nor refused, and each of the three is told in its own words. (A write answers it
-// as a fault; `Refused` never holds that one.)
+// as a fault; `Refused` never holds that one.) specs/Refusals.antt gives each case its row, and a done call none.
 #[derive(Clone, Copy, PartialEq, Eq, Debug)]
 pub enum Answer {
     Done,

@@ -19,6 +19,7 @@ use Rattle.least.proofs.Answered.{writes_answered}
 use Rattle.planner.specs.declared.fault.PlanFault.{PlanFault}
 use Rattle.planner.specs.declared.fault.PlanFault.TheVariants as plans
 use Rattle.planner.specs.declared.run_fault.RunFault.{RunFault}
+use Rattle.planner.specs.declared.run_fault.RunFault.TheVariants as runs
 use Rattle.planner.specs.Call.{Handed, plan_call, plan_row}
 use Rattle.planner.specs.Looking.{LookedBy}
 use Rattle.planner.specs.Waits.{Polls, waited_by}
@@ -27,9 +28,10 @@ use Rattle.planner.specs.Running.{Ran, Sends, Did}
 use Rattle.planner.proofs.Calls.{call_idle}
 use Rattle.planner.proofs.Doings.{did_polls, did_join, sends_did}
 use Rattle.writing.specs.declared.fault.WriteFault.{WriteFault}
-use Rattle.writing.specs.WriteRows.{row, unplanned_as, unrun_as}
+use Rattle.writing.specs.declared.fault.WriteFault.TheVariants.{Abandoned}
+use Rattle.writing.specs.WriteRows.{row, unplanned_as}
 use Rattle.writing.specs.Wrote as wrote
-use Rattle.writing.specs.Wrote.{plan_over, Buffers, buffers, Filled, LookedOver, Carried, unplanned, abandoned}
+use Rattle.writing.specs.Wrote.{plan_over, planned_cycles, Buffers, buffers, Filled, LookedOver, Carried, unplanned, abandoned}
 use Rattle.writing.proofs.Unrefused.{Made, planned-made, unrefused}
 
 waited_none : (m : Meaning) → waited_by 0 m ≡ m
@@ -144,10 +146,16 @@ module _ {P : Type 0} (part : Ghosts P)
               (writes_answered (part.meaning a).shape (of_part.protected_at (part.meaning a)) (part.meaning a).image S.imaged address bytes small (length steps) (length sent)) in
               by cost list fresh e' (t.1, t.2) s
 
-      -- what becomes of a run's answer
-      abbrev pub ended : ℕ × ℕ → Result ℕ RunFault → Result (ℕ × ℕ) WriteFault
-      ended cost (Ok n) = Ok cost
-      ended cost (Err fault) = Err (unrun_as fault)
+      -- what a run's answer says of the write: it is done or abandoned, and nothing else comes
+      abbrev pub Ended : P → P → ℕ × ℕ → Result ℕ RunFault → Type 0
+      Ended a to cost (Ok n) = Here a to (Ok cost)
+      Ended a to cost (Err (runs.Limit n)) = ⊥
+      Ended a to cost (Err (runs.StillBusy n)) = ⊥
+      Ended a to cost (Err (runs.Refused step fault)) = ⊥
+      Ended a to cost (Err (runs.Abandoned n)) = Here a to (Err (Abandoned n))
+
+      pub ended_as : (a to : P) (cost : ℕ × ℕ) (fault known : RunFault) → Ended a to cost (Err fault) → fault ≡ known → Ended a to cost (Err known)
+      ended_as a to cost fault known h e = subst (λ (f : RunFault). Ended a to cost (Err f)) e h
 
       module _ (a mid : P) (cost : ℕ × ℕ) (plan : Plan a cost) (q : (part.meaning a).due ≡ 0) (on' : allowed limit ≡ true)
           (look : LookedOver part a mid) where
@@ -160,7 +168,7 @@ module _ {P : Type 0} (part : Ghosts P)
         idle_mid : (part.meaning mid).due ≡ 0
         idle_mid = ap (λ m. m.due) look.same ∙ q
 
-        made : Made list fresh
+        made : Made list fresh (planned_cycles (part.meaning a) address bytes)
         made = planned-made cost list fresh (part.meaning a).shape (of_part.protected_at (part.meaning a)) (part.meaning a).image address bytes (length steps) (length sent) plan.is
 
         -- the look, the polls of the run, and the steps that were sent
@@ -171,14 +179,14 @@ module _ {P : Type 0} (part : Ghosts P)
             (did_join part stays joins fresh [] (cycles_of fresh l) mid x y (did_polls part stays joins fresh _ mid x wait)
             (sends_did part stays joins fresh sends))
 
-        pub carried_run : (to : P) (r : Result ℕ RunFault) → Ran part fresh limit list mid to r → Here a to (ended cost r)
+        pub carried_run : (to : P) (r : Result ℕ RunFault) → Ran part fresh limit list mid to r → Ended a to cost r
         carried_run to _ (running.no_limit off same) = absurd (both_ways _ off on')
         carried_run to _ (running.still-busy on due wait) = absurd (omega (arith, due, idle_mid))
         carried_run to _ (running.ran {a = x} on due wait sends) =
             wrote.written cost list fresh plan.is plan.filled (looked_on _ a mid x idle_mid look wait) sends
         carried_run to _ (running.refused {a = x} {b = y} on due wait k s fault lt split sends idle turned) =
             let d = so_far wait sends in
-            absurd (unrefused (part.meaning a) (part.meaning y) list fresh (put address bytes (part.meaning a).image) k s fault made plan.least.goes lt split
+            absurd (unrefused (part.meaning a) (part.meaning y) list fresh _ (put address bytes (part.meaning a).image) k s fault made plan.least.goes lt split
             d.shape d.guarded idle d.goes.1 turned.verdict)
         carried_run to _ (running.abandoned {a = x} {b = y} {c = still} on due wait k s lt split sends idle step over stop) =
             abandoned k s cost list fresh plan.is plan.filled lt split (looked_on _ a mid x idle_mid look wait) sends idle step over stop
@@ -187,7 +195,7 @@ module _ {P : Type 0} (part : Ghosts P)
       pub carried-ran : (a mid to : P) (cost : ℕ × ℕ) (n d : ℕ) (r : Result ℕ RunFault) → Sound (part.meaning a) → ((i : ℕ) → get_or bytes i 0 < 256)
           → allowed limit ≡ true → (part.meaning a).due ≡ 0 → LookedOver part a mid
           → Handed (plan_call (part.meaning a) address bytes (length steps) (length sent)) (Ok cost) steps steps' sent sent'
-          → ◌≡◌ {A = ℕ × ℕ} (n, d) cost → Ran part (take d sent') limit (take n steps') mid to r → Here a to (ended cost r)
+          → ◌≡◌ {A = ℕ × ℕ} (n, d) cost → Ran part (take d sent') limit (take n steps') mid to r → Ended a to cost r
       carried-ran a mid to cost n d r S small on' q look h e x =
           let plan = handed_plan a cost S small (eq-eqb _ _ q) h in
           let counts : ◌≡◌ {A = ℕ × ℕ} (n, d) (length plan.list, length plan.fresh) = e ∙ plan.counts in

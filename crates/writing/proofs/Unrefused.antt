@@ -19,9 +19,8 @@ use Rattle.least.specs.Writes.{refused, planned, past_the_end, steps_short, data
 use Rattle.planner.specs.Running.{held, lies, step_verdict}
 use Rattle.planner.proofs.Sendable.{step-verdict}
 
--- a plan that is handed out is the steps and the data of some list of cycles
-pub record Made (list : List Step) (fresh : List ℕ) : Type 0 where
-  pub cycles : List Cycle
+-- these are the steps and the data of a list of cycles
+pub record Made (list : List Step) (fresh : List ℕ) (cycles : List Cycle) : Type 0 where
   pub steps : list ≡ steps_of cycles
   pub bytes : fresh ≡ data_of cycles
 
@@ -31,25 +30,27 @@ unlike row cost list fresh e = let z : ◌≡◌ {A = ℕ} 0 1 = cc in absurd (o
 module _ (cost : ℕ × ℕ) (list : List Step) (fresh : List ℕ) where
   by_room : (b c : Bool) (least : ℕ × ℕ) (l : List Cycle)
       → cond b (cond c (planned least (steps_of l) (data_of l)) (refused (data_short least))) (refused (steps_short least)) ≡ planned cost list fresh
-      → Made list fresh
+      → Made list fresh l
   by_room true true least l e =
       let u : list ≡ steps_of l = cc in
-      let v : fresh ≡ data_of l = cc in record { cycles = l; steps = u; bytes = v }
+      let v : fresh ≡ data_of l = cc in record { steps = u; bytes = v }
   by_room true false least l e = unlike _ cost list fresh e
   by_room false c least l e = unlike _ cost list fresh e
 
   by_barred : (o : Option ℕ) (step_room data_room : ℕ) (least : ℕ × ℕ) (l : List Cycle)
-      → unless_barred o (unless_short step_room data_room least l) ≡ planned cost list fresh → Made list fresh
+      → unless_barred o (unless_short step_room data_room least l) ≡ planned cost list fresh → Made list fresh l
   by_barred None step_room data_room least l e = by_room (leb least.0 step_room) (leb least.1 data_room) least l e
   by_barred (Some a) step_room data_room least l e = unlike _ cost list fresh e
 
+  -- a plan that is handed out is the steps and the data of the defined plan
   pub planned-made : (m : Shape) (prot : ℕ → Bool) (image : List ℕ) (address : ℕ) (bytes : List ℕ) (step_room data_room : ℕ)
-      → plan_write m prot image address bytes step_room data_room ≡ planned cost list fresh → Made list fresh
+      → plan_write m prot image address bytes step_room data_room ≡ planned cost list fresh
+      → Made list fresh (plan fewest m prot image (put address bytes image))
   planned-made m prot image address bytes step_room data_room = go (leb (address + length bytes) (size m))
     where
       go : (b : Bool)
           → cond b (plan_to m prot image (put address bytes image) step_room data_room) (refused (past_the_end address)) ≡ planned cost list fresh
-          → Made list fresh
+          → Made list fresh (plan fewest m prot image (put address bytes image))
       go true e =
           by_barred (lowest_barred m prot image (put address bytes image)) step_room data_room
           (least_cost fewest m prot image (put address bytes image)) (plan fewest m prot image (put address bytes image)) e
@@ -85,12 +86,12 @@ none_of None e = refl
 none_of (Some f) e = absurd (false≢true e)
 
 -- step k of an accepted plan, at a part where the steps before it were carried out
-pub unrefused : (a b : Meaning) (list : List Step) (fresh : List ℕ) (wanted : List ℕ) (k : ℕ) (s : Step) (fault : PartFault)
-    → Made list fresh → Goes a.shape (protected_at a) a.image (cycles_of fresh list) wanted
+pub unrefused : (a b : Meaning) (list : List Step) (fresh : List ℕ) (ys : List Cycle) (wanted : List ℕ) (k : ℕ) (s : Step) (fault : PartFault)
+    → Made list fresh ys → Goes a.shape (protected_at a) a.image (cycles_of fresh list) wanted
     → k < length list → take (k + 1) list ≡ take k list ++ s ∷ []
     → b.shape ≡ a.shape → b.guarded ≡ a.guarded → b.due ≡ 0 → leads a.shape (cycles_of fresh (take k list)) a.image ≡ b.image
     → step_verdict b fresh s ≡ Some fault → ⊥
-unrefused a b list fresh wanted k s fault made goes lt split shape guarded due led told =
+unrefused a b list fresh ys wanted k s fault made goes lt split shape guarded due led told =
     let z : ◌≡◌ {A = Option PartFault} None (Some fault) = sym none ∙ told in
     let o : ◌≡◌ {A = ℕ} 0 1 = cc in omega arith
   where
@@ -112,11 +113,11 @@ unrefused a b list fresh wanted k s fault made goes lt split shape guarded due l
     here : accepts b.shape (protected_at b) (step_cycle fresh s) b.image ≡ true
     here = rw (shape, guarded) taken
 
-    split' : take (suc k) (steps_from 0 made.cycles) ≡ take k (steps_from 0 made.cycles) ++ s ∷ []
+    split' : take (suc k) (steps_from 0 ys) ≡ take k (steps_from 0 ys) ++ s ∷ []
     split' = rw (made.steps, add-one k) at split
 
     within : s.place + s.length ≤ length fresh
-    within = omega (arith, lies_among made.cycles 0 k s split' (rw made.steps at lt), ap length made.bytes)
+    within = omega (arith, lies_among ys 0 k s split' (rw made.steps at lt), ap length made.bytes)
 
     none : step_verdict b fresh s ≡ None
     none =

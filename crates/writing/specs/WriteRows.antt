@@ -1,14 +1,11 @@
--- The rows of a write's refusals, and how the refusals of planning and running become those of a write.
+-- The rows of a write's refusals, and how the refusals of planning become those of a write.
 use Rattle.std.specs.Prelude.{[], ◌∷◌}
 use Rattle.memory.specs.Row.{Row, rowed}
-use Rattle.part.specs.Rows as of_part
 use Rattle.least.specs.Writes.{past_the_end, protected_at, steps_short, data_short}
 use Rattle.planner.specs.declared.fault.PlanFault.{PlanFault}
 use Rattle.planner.specs.declared.fault.PlanFault.TheVariants as plans
-use Rattle.planner.specs.declared.run_fault.RunFault.{RunFault}
-use Rattle.planner.specs.declared.run_fault.RunFault.TheVariants as runs
 use Rattle.writing.specs.declared.fault.WriteFault.{WriteFault}
-use Rattle.writing.specs.declared.fault.WriteFault.TheVariants.{Limit, Outside, StillBusy, Protected, StepsShort, DataShort, Abandoned, Refused}
+use Rattle.writing.specs.declared.fault.WriteFault.TheVariants.{Limit, Outside, StillBusy, Protected, StepsShort, DataShort, Abandoned}
 
 abbrev pub row : WriteFault → Row
 row (Limit limit) = rowed 1 9 (limit ∷ [])
@@ -18,7 +15,6 @@ row (Protected address) = protected_at address
 row (StepsShort cost) = steps_short cost
 row (DataShort cost) = data_short cost
 row (Abandoned cycles) = rowed 1 8 (cycles ∷ [])
-row (Refused step fault) = of_part.row fault
 
 abbrev pub unplanned_as : PlanFault → WriteFault
 unplanned_as (plans.Outside address) = Outside address
@@ -26,9 +22,3 @@ unplanned_as plans.Busy = StillBusy 0
 unplanned_as (plans.Protected address) = Protected address
 unplanned_as (plans.StepsShort cost) = StepsShort cost
 unplanned_as (plans.DataShort cost) = DataShort cost
-
-abbrev pub unrun_as : RunFault → WriteFault
-unrun_as (runs.Limit limit) = Limit limit
-unrun_as (runs.StillBusy polls) = StillBusy polls
-unrun_as (runs.Refused step fault) = Refused step fault
-unrun_as (runs.Abandoned cycles) = Abandoned cycles

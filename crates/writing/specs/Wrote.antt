@@ -1,11 +1,15 @@
 -- What a write does and answers.
 use Rattle.std.specs.Prelude.{◌≡◌, ℕ, ◌+◌, ◌*◌, ◌<◌, ◌≤◌, true, false, List, [], ◌∷◌, ◌++◌, length, take, drop, Ok, Err, Result}
 use Rattle.memory.specs.Shape.{size}
+use Rattle.memory.specs.Page.{put}
+use Rattle.memory.specs.Cycle.{Cycle}
 use Rattle.part.specs.declared.part.Part.{Ghosts}
 use Rattle.part.specs.Limit.{allowed}
 use Rattle.part.specs.Meaning as of_part
 use Rattle.part.specs.Meaning.{Meaning, Event}
 use Rattle.least.specs.declared.step.Step.{Step}
+use Rattle.least.specs.Fewest.{fewest}
+use Rattle.least.specs.Plan.{plan}
 use Rattle.least.specs.Writes.{Answer, refused, planned, plan_write}
 use Rattle.least.specs.Theorems.{Says}
 use Rattle.planner.specs.Waits.{Polls}
@@ -18,6 +22,10 @@ use Rattle.writing.specs.WriteRows.{row}
 -- what planning answers over a part with this meaning, where there is room for so many steps and data bytes
 abbrev pub plan_over : Meaning → ℕ → List ℕ → ℕ → ℕ → Answer
 plan_over m address bytes step_room data_room = plan_write m.shape (of_part.protected_at m) m.image address bytes step_room data_room
+
+-- the cycles of the defined plan of a write
+abbrev pub planned_cycles : Meaning → ℕ → List ℕ → List Cycle
+planned_cycles m address bytes = plan fewest m.shape (of_part.protected_at m) m.image (put address bytes m.image)
 
 -- the step list and the data buffer, before and after
 pub record Buffers : Type 0 where

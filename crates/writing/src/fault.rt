@@ -1,11 +1,9 @@
 // Why a write is not done. specs/WriteRows.antt gives each case its layer, number and values.
 ghost use Rattle.std.specs.Prelude.{◌≡◌};
-ghost use Rattle.writing.specs.WriteRows.{unplanned_as, unrun_as};
+ghost use Rattle.writing.specs.WriteRows.{unplanned_as};
 
 use least::cost::Cost;
-use part::fault::PartFault;
 use planner::fault::PlanFault;
-use planner::run_fault::RunFault;
 
 #[derive(Clone, Copy, PartialEq, Eq, Debug)]
 pub enum WriteFault {
@@ -23,14 +21,12 @@ pub enum WriteFault {
     DataShort(Cost),
     // polls were due beyond the limit after a cycle: the write was abandoned; the cycles sent
     Abandoned(usize),
-    // the part refused a step of the plan, which never happens; steps count from 0
-    Refused { step: usize, fault: PartFault },
 }
 
 impl From<PlanFault> for WriteFault {
     ghost from_gives = { λ fault made. made ≡ unplanned_as fault };
 
-    // A write plans once nothing is due, so polls that are due then were never made.
+    // A write plans once nothing is due, so `Busy` never comes; its row tells no polls made.
     fn from(fault: PlanFault) -> WriteFault {
         match fault {
             PlanFault::Outside(address) => WriteFault::Outside(address),
@@ -38,19 +34,6 @@ impl From<PlanFault> for WriteFault {
             PlanFault::Protected(address) => WriteFault::Protected(address),
             PlanFault::StepsShort(cost) => WriteFault::StepsShort(cost),
             PlanFault::DataShort(cost) => WriteFault::DataShort(cost),
-        }
-    }
-}
-
-impl From<RunFault> for WriteFault {
-    ghost from_gives = { λ fault made. made ≡ unrun_as fault };
-
-    fn from(fault: RunFault) -> WriteFault {
-        match fault {
-            RunFault::Limit(limit) => WriteFault::Limit(limit),
-            RunFault::StillBusy(polls) => WriteFault::StillBusy(polls),
-            RunFault::Refused { step, fault } => WriteFault::Refused { step, fault },
-            RunFault::Abandoned(cycles) => WriteFault::Abandoned(cycles),
         }
     }
 }

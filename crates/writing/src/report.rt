@@ -15,7 +15,6 @@ fn short(cause: Cause, cost: Cost) -> Report
     Report::two(Layer::Caller, cause, cost.0, cost.1)
 }
 
-// A refused step is told as the part refused it.
 impl Reported for WriteFault {
     ghost row = { row };
 
@@ -28,7 +27,6 @@ impl Reported for WriteFault {
             WriteFault::StepsShort(cost) => short(Cause::StepsShort, cost),
             WriteFault::DataShort(cost) => short(Cause::DataShort, cost),
             WriteFault::Abandoned(cycles) => Report::one(Layer::Caller, Cause::Abandoned, cycles),
-            WriteFault::Refused { step: _, fault } => fault.report(),
         }
     }
 }

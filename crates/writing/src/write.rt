@@ -12,6 +12,7 @@ use part::part::Part;
 use part::size::{is_inside, size_of};
 use planner::plan::plan;
 use planner::run::run;
+use planner::run_fault::RunFault;
 use planner::wait::wait;
 
 // A write that lies inside a part with nothing due.
@@ -31,8 +32,14 @@ fn carry_out<P: Part>(
 {
     let cost = plan(part, address, bytes, steps, data)?;
     let (cycles, sent) = cost;
-    run(part, &steps[..cycles], &data[..sent], limit)?;
-    Ok(cost)
+    match run(part, &steps[..cycles], &data[..sent], limit) {
+        Ok(_) => Ok(cost),
+        Err(RunFault::Abandoned(cycles)) => Err(WriteFault::Abandoned(cycles)),
+        // the limit was looked at, nothing is due, and the part accepts each step of its plan
+        Err(RunFault::Limit(_)) => unreachable!(),
+        Err(RunFault::StillBusy(_)) => unreachable!(),
+        Err(RunFault::Refused { step: _, fault: _ }) => unreachable!(),
+    }
 }
 
 // Writes bytes at an address at the least cost, and answers it: cycles and data bytes sent. The checks in their order: the
