@@ -1,5 +1,5 @@
 -- A write's refusal by its row.
-use Rattle.std.proofs.Common.{◌≡◌, ℕ, cond, eqb, get_or, sym, refl, ap, ◌∙◌, arith}
+use Rattle.std.proofs.Common.{◌≡◌, ℕ, cond, eqb, get_or, sym, refl, ap, ◌∙◌}
 use Rattle.memory.specs.Row.{Row}
 use Rattle.writing.specs.declared.fault.WriteFault.{WriteFault}
 use Rattle.writing.specs.declared.fault.WriteFault.TheVariants.{Limit, Outside, StillBusy, Protected, StepsShort, DataShort, Abandoned}
