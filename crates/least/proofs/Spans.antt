@@ -1,10 +1,8 @@
 -- How long a run has to be to cover the changes of a page, and where the shortest starts.
 use Rattle.std.proofs.Common.{◌≡◌, ℕ, zero, suc, ◌+◌, ◌-◌, ◌<◌, ◌≤◌, max, Bool, true, false, cond, eqb, ltb, leb, ◌⊎◌, List, [], ◌∷◌, length, get_or, sym, refl, ◌∙◌, subst, inl, inr, add-zero, arith}
 use Rattle.std.proofs.lemmas.Bool.{cases_Bool, cases_eq, cond_both, cond-true, cond-false, eqb-true, eqb-false, ltb-true, ltb-false, leb-false}
+use Rattle.memory.proofs.Covers.{next}
 use Rattle.least.specs.Window.{changes, behind, span, least_at}
-
-next : (j i : ℕ) → j + suc i ≡ suc j + i
-next j i = omega arith
 
 max-le : (a b n : ℕ) → a < n → b ≤ n → max (suc a) b ≤ n
 max-le a b n h k = omega arith
