@@ -10,7 +10,7 @@ use Rattle.least.specs.Fewest.{fewest}
 use Rattle.least.specs.Plan.{least_cost, plan}
 use Rattle.least.specs.Steps.{steps_of, data_of, cycles_of}
 use Rattle.least.specs.Writes.{Answer, refused, planned, past_the_end, steps_short, data_short, unless_barred, unless_short, plan_to}
-use Rattle.least.specs.Theorems.{LeastBy, Says, outside, barred, few-steps, few_data, written, WritesAnswered}
+use Rattle.least.specs.Theorems.{LeastBy, Says, outside, barred, few_steps, few_data, written, WritesAnswered}
 use Rattle.least.proofs.Laws.{fewest_lawful}
 use Rattle.least.proofs.Least.{least_holds}
 use Rattle.least.proofs.Stepped.{steps_are_cycles}
@@ -44,7 +44,7 @@ module _ (m : Shape) (prot : ℕ → Bool) (image : List ℕ) (address : ℕ) (b
           (subst (λ y. y ≤ step_room) (ap (λ y. y.0) counts) (leb-true _ _ t))
           (subst (λ y. y ≤ data_room) (ap (λ y. y.1) counts) (leb-true _ _ u))
       go true t false u = few_data l cost inside by (leb-true _ _ t) (leb-false _ _ u)
-      go false t c u = few-steps l cost inside by (leb-false _ _ t)
+      go false t c u = few_steps l cost inside by (leb-false _ _ t)
 
   inside_says :
       Imaged m image → Imaged m wanted → address + length bytes ≤ size m → SaysHere (plan_to m prot image wanted step_room data_room)

@@ -67,7 +67,7 @@ pub data Says (m : Shape) (prot : ℕ → Bool) (image : List ℕ) (address : �
       → ((l : List Cycle) → Goes m prot image l (put address bytes image) → ⊥)
       → Says m prot image address bytes step_room data_room (refused (protected_at a))
   -- the least cost, which has more steps than there is room for
-  few-steps :
+  few_steps :
       (l : List Cycle) (cost : ℕ × ℕ) → address + length bytes ≤ size m
       → LeastBy m prot image (put address bytes image) l cost → step_room < cost.0
       → Says m prot image address bytes step_room data_room (refused (steps_short cost))

@@ -2,6 +2,7 @@
 // `C` is what costs are counted in: the theorems hold of every cost that keeps the laws.
 ghost use Rattle.least.specs.Theorems.{PlanIsLeast, PlanReaches, NoneLeads, LowestFound, StepsAreCycles, FewestIsLawful, WritesAnswered};
 ghost use Rattle.least.specs.Worked.{WorkedWrites};
+ghost use Rattle.least.specs.Ties.{WorkedTies};
 
 // No accepted list of cycles that leads to the wanted image costs less than the plan.
 pub fn least<C>()
@@ -37,4 +38,9 @@ pub fn answered()
 // Eight worked writes on the bench's memory.
 pub fn worked_writes()
     ensures { WorkedWrites }
+{}
+
+// Six more: which way a tie goes, and the order of steps and data.
+pub fn worked_ties()
+    ensures { WorkedTies }
 {}

@@ -21,7 +21,7 @@ returns-in_err-place-clause-value g c =
     let both = c.both_pages.ensures in
     rw c.from_residual.ensures
     (first_of q m.image (wanted m a b) c.both_pages.result.0 c.both_pages.result.1 _ None both.old both.new
-    (long m q c.requires.1 a b c.requires.0 _ _ both.old both.new) c.in_err-place.ensures)
+    (long m q c.requires.1 a b c.requires.0 _ _ both.old both.new) c.in_err-place.ensures.words)
 
 pub returns-clause-value : goal.returns-clause-value
 returns-clause-value g c =
@@ -31,4 +31,4 @@ returns-clause-value g c =
     let b = c.args.write.bytes.now in
     let both = c.both_pages.ensures in
     first_of q m.image (wanted m a b) c.both_pages.result.0 c.both_pages.result.1 _ (Some c.in_ok-place.place) both.old both.new
-    (long m q c.requires.1 a b c.requires.0 _ _ both.old both.new) c.in_ok-place.ensures
+    (long m q c.requires.1 a b c.requires.0 _ _ both.old both.new) c.in_ok-place.ensures.words
