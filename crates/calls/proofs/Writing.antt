@@ -130,7 +130,7 @@ module _ {P : Type 0} (part : Ghosts P)
       unplanned_owed fault _ (theorems.outside past) e shut same u left = absurd (omega (arith, past, passes.inside))
       unplanned_owed fault _ (theorems.barred a inside lowest nothing) e shut same u left =
           owed_as fault (Protected a) (cc) (refused_owed f g (Protected a) shut same u left (λ _. (λ _. nothing, λ _. refl)) (passes, lowest))
-      unplanned_owed fault _ (theorems.few-steps l cost inside by short) e shut same u left =
+      unplanned_owed fault _ (theorems.few_steps l cost inside by short) e shut same u left =
           owed_as fault (StepsShort cost) (cc)
           (refused_owed f g (StepsShort cost) shut same u left (λ _. (λ z. absurd (omega arith), λ nothing. absurd (nothing l by.goes))) (passes, (l, by), short))
       unplanned_owed fault _ (theorems.few_data l cost inside by enough short) e shut same u left =
