@@ -1,3 +1,4 @@
 mod Showing
 mod Refusing
 mod Playing
+mod Replaying

@@ -1,6 +1,9 @@
 // Plays a frame listing on a bench chip and prints what comes back, a line for each frame.
 #![tactic(auto)]
 
+ghost use Rattle.std.specs.Prelude.{OnOk, string_bytes};
+ghost use Rattle.replay.specs.Replayed.{Replayed};
+
 mod play;
 mod show;
 #[cfg(test)]
@@ -25,13 +28,15 @@ const CAPACITY: u8 = 0x0B;
 // So many polls find a cycle still at work: a listing can show the busy bit, and need not ask long.
 const BUSY: usize = 2;
 
-// Plays the frames up to the first malformed line, and says where that is.
+// Plays the frames up to the first malformed line, writes a line for each, and says where the malformed one is.
 fn replay(
     heap: Global,
     text: &[u8],
     chip: &mut BenchChip,
     out: &mut String,
-) -> Result<(), AllocError> {
+) -> Result<(), AllocError>
+    ensures { OnOk result (Replayed text.now chip.old chip.new (string_bytes out.old) (string_bytes out.new)) }
+{
     // a frame's byte takes two digits and a space
     let mut room = vec![in heap; 0u8; text.len() / 3 + 1]?;
     let mut reader = Reader::new(text);

@@ -1,9 +1,10 @@
 // One line of a listing, played on a bench chip.
-ghost use Rattle.std.specs.Prelude.{◌≡◌, ◌+◌, ◌≤◌, ◌++◌, length, if◌then◌else◌, OnOk, nat_le, string_bytes};
+ghost use Rattle.std.specs.Prelude.{◌≡◌, ◌+◌, ◌++◌, length, if◌then◌else◌, OnOk, nat_le, string_bytes};
+ghost use Rattle.listing.specs.Parts.{count_of, exchange};
 ghost use Rattle.port.specs.Bench.{chip_of};
-ghost use Rattle.port.specs.Machine.{after, answer, frame};
-ghost use Rattle.replay.specs.Playable.{Playable};
-ghost use Rattle.replay.specs.Shown.{line_of};
+ghost use Rattle.port.specs.Machine.{answer, frame};
+ghost use Rattle.replay.specs.Playable.{Playable, ForAsked, wanted_by};
+ghost use Rattle.replay.specs.Replayed.{frame_line, frame_lines, after_frame, after_frames};
 
 use crate::show::Shown;
 use listing::bytes::read_pair;
@@ -17,7 +18,9 @@ use std::alloc::AllocError;
 const MOST_BACK: usize = u8::MAX as usize;
 
 // How many bytes a count asks for; none without one.
-fn wanted(count: Option<Placed>) -> u8 {
+fn wanted(count: Option<Placed>) -> u8
+    ensures { result ≡ wanted_by (count_of count.entry) }
+{
     count
         .and_then(|count| read_pair(count.item.text()))
         .unwrap_or(0)
@@ -31,8 +34,9 @@ fn play_frame(
     out: &mut String,
 ) -> Result<(), AllocError>
     ensures back { back.new ≡ (if nat_le (length sent.now + length back.old) 320 then answer 0 (chip_of chip.old) (frame sent.now (length back.old)) else back.old) }
-    ensures chip { chip_of chip.new ≡ (if nat_le (length sent.now + length back.old) 320 then after chip.old.busy_number (chip_of chip.old) (frame sent.now (length back.old)) else chip_of chip.old) }
-    ensures out { OnOk result (string_bytes out.new ≡ string_bytes out.old ++ line_of (length sent.now + length back.old) back.new) }
+    ensures number { chip.new.busy_number ≡ chip.old.busy_number }
+    ensures chip { chip_of chip.new ≡ after_frame chip.old.busy_number (chip_of chip.old) (exchange sent.now (length back.old)) }
+    ensures out { OnOk result (string_bytes out.new ≡ string_bytes out.old ++ frame_line (chip_of chip.old) (exchange sent.now (length back.old))) }
 {
     match chip.transfer(sent, back) {
         Ok(()) => writeln!(out, "{}", Shown(back)),
@@ -40,7 +44,7 @@ fn play_frame(
     }
 }
 
-// Plays the frame of a line that the reader gave. `room` is for the bytes of the frame. A note does nothing.
+// Plays the frame of a line that the reader gave, and writes its line. `room` is for the bytes of the frame. A note does nothing.
 pub(crate) fn play(
     chip: &mut BenchChip,
     line: Line,
@@ -48,7 +52,10 @@ pub(crate) fn play(
     out: &mut String,
 ) -> Result<(), AllocError>
     requires { Playable line (length room.old) }
-    ensures { length room.new ≡ length room.old }
+    ensures room { length room.new ≡ length room.old }
+    ensures number { chip.new.busy_number ≡ chip.old.busy_number }
+    ensures chip { ForAsked line.entry (λ xs. chip_of chip.new ≡ after_frames chip.old.busy_number (chip_of chip.old) xs) }
+    ensures out { OnOk result (ForAsked line.entry (λ xs. string_bytes out.new ≡ string_bytes out.old ++ frame_lines chip.old.busy_number (chip_of chip.old) xs)) }
 {
     let Item::Frame(pairs) = line.first.item else {
         return Ok(());

@@ -25,6 +25,14 @@ fn odd_listings(rt: HostRuntime) -> Result<(), Fail> {
     prints(&rt, heap, b"", "")?;
     prints(&rt, heap, b"; nothing but a note\n", "")?;
     prints(&rt, heap, b"\n", "E12 1 1\n")?;
+    prints(&rt, heap, b"06\n06 x\n", "-\nE12 2 4\n")?;
+    // write enable sets bit 1 of the status byte; notes do nothing
+    prints(
+        &rt,
+        heap,
+        b"; first\n06\n;\n; 05 > 01\n05 > 01\n; last\n",
+        "-\n82\n",
+    )?;
     prints(
         &rt,
         heap,
@@ -47,21 +55,49 @@ fn odd_listings(rt: HostRuntime) -> Result<(), Fail> {
     )
 }
 
-// 65 bytes sent and 255 back are 320, which the chip carries; one byte more is not carried.
+// A page filled with 00h: its last byte, and the first of the next page.
+#[test]
+fn full_page(rt: HostRuntime) -> Result<(), Fail> {
+    let heap = rt.alloc();
+    let mut text = String::new(heap);
+    write!(text, "06\n02 00 00 00")?;
+    for _ in 0..64 {
+        write!(text, " 00")?;
+    }
+    write!(text, "\n05 > 03\n05 > 01\n05 > 01\n03 00 00 3F > 02\n")?;
+    prints(
+        &rt,
+        heap,
+        text.as_bytes(),
+        "-\n-\n81 81 81\n81\n80\n00 FF\n",
+    )
+}
+
+// Writes a line of so many pairs, with `end` behind them.
+fn put_pairs(text: &mut String, pairs: usize, end: &str) -> Result<(), Fail> {
+    for _ in 1..pairs {
+        write!(text, "06 ")?;
+    }
+    writeln!(text, "06{end}")?;
+    Ok(())
+}
+
+// The chip carries 320 bytes in all, sent and back; one byte more is not carried. The chip hears none of these frames: 06 is
+// a frame of one byte.
 #[test]
 fn long_frames(rt: HostRuntime) -> Result<(), Fail> {
     let heap = rt.alloc();
     let mut text = String::new(heap);
-    for sent in [65, 66] {
-        for _ in 1..sent {
-            write!(text, "06 ")?;
-        }
-        writeln!(text, "06 > FF")?;
-    }
+    put_pairs(&mut text, 65, " > FF")?;
+    put_pairs(&mut text, 66, " > FF")?;
     let out = printed(heap, text.as_bytes())?;
     assert_eq!(&rt; out.lines().count(), 2);
     assert!(&rt; out.ends_with("\nE10\n"));
-    Ok(())
+    let mut text = String::new(heap);
+    put_pairs(&mut text, 320, "")?;
+    put_pairs(&mut text, 321, "")?;
+    writeln!(text, "05 > 01")?;
+    prints(&rt, heap, text.as_bytes(), "-\nE10\n80\n")
 }
 
 // More lines than are read of the standard input.
