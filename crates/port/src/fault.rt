@@ -11,8 +11,7 @@ use memory::report::{Cause, Layer, Report, Reported};
 
 #[derive(Clone, Copy, PartialEq, Eq, Debug)]
 pub enum PortFault {
-    // the bytes sent and the bytes wanted back are together more than the longest frame, or the bytes of a frame that is built more
-    // than its buffer: what there is room for
+    // the bytes sent and the bytes wanted back are together more than the longest frame, which is this long
     TooLong(usize),
 }
 
