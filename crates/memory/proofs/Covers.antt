@@ -3,7 +3,7 @@ use Rattle.std.proofs.Common.{◌≡◌, ℕ, zero, suc, ◌+◌, ◌%◌, ◌<�
 use lib.ListN.{length-map, get_or-replicate}
 use Rattle.memory.specs.Page.{laid, merged, joint, cover}
 
-next : (j i : ℕ) → j + suc i ≡ suc j + i
+pub next : (j i : ℕ) → j + suc i ≡ suc j + i
 next j i = omega arith
 
 -- a place that is laid with nothing
