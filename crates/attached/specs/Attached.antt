@@ -1,13 +1,13 @@
 -- What is promised of calls to a fence over a driver that was just attached.
 use Rattle.std.specs.Prelude.{◌≡◌, ℕ, List, replicate, Some, None}
 use Rattle.port.specs.declared.port.Port.{Ghosts}
+use Rattle.port.specs.Build.{status_frame}
 use Rattle.part.specs.declared.part.Part as of_part
 use Rattle.driver.specs.declared.driver.Driver.{Driver}
 use Rattle.driver.specs.declared.fault.AttachFault.{AttachFault}
 use Rattle.driver.specs.declared.fault.AttachFault.TheVariants.{Limit, Busy}
 use Rattle.driver.specs.Attach.{attach_frames, rested, unattached}
 use Rattle.driver.specs.Driving.{lowered}
-use Rattle.driver.specs.Frames.{status_frame}
 use Rattle.driver.specs.Means.{driver_meaning, DriverTrace}
 use Rattle.least.specs.declared.step.Step.{Step}
 use Rattle.calls.specs.declared.call.Entry.{Entry}

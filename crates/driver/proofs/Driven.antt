@@ -9,6 +9,7 @@ use Rattle.memory.specs.Page.{page, blank}
 use Rattle.memory.specs.Cycle.{Cycle, cycle_of, effect, permits}
 use Rattle.memory.specs.Image.{reaches}
 use Rattle.memory.proofs.Sizes.{page-fits}
+use Rattle.port.specs.Build.{status_frame}
 use Rattle.port.specs.Chip as of_chip
 use Rattle.port.specs.Chip.{Chip, shape}
 use Rattle.port.specs.Machine.{Frame, after, hears, waited, done, latched, takes}
@@ -18,7 +19,7 @@ use Rattle.part.specs.Outline.{outlined, guarding}
 use Rattle.part.specs.Verdict.{inside, takes_length, presets}
 use Rattle.port.proofs.Hearing.{status-heard}
 use Rattle.part.proofs.Refusals.{reaches_in}
-use Rattle.driver.specs.Frames.{Sendable, status_frame, enable_frame, cycle_frame, looks}
+use Rattle.driver.specs.Frames.{Sendable, enable_frame, cycle_frame, looks}
 use Rattle.driver.specs.Carries.{Carries, Harmless, none, step, status_reads, carried_out}
 use Rattle.driver.specs.Driving.{Drives, Intact, seen}
 use Rattle.driver.specs.Joins.{chip_long, carries-++, status-++}

@@ -7,12 +7,13 @@ use Rattle.std.proofs.lemmas.Bool.Decides.{nat_tests}
 use Rattle.memory.specs.Image.{rolled}
 use Rattle.port.specs.declared.instruction.Operation.TheVariants.{ReadStatus, Identify, Read}
 use Rattle.port.specs.Instructions.{table}
-use Rattle.port.specs.Build.{built, listed}
+use Rattle.port.specs.Build.{built, listed, status_frame}
 use Rattle.port.specs.Chip.{Chip}
-use Rattle.port.specs.Machine.{identify, read, unknown, heard, hears, ordered, act, after, reply, answer, shown, waited, identity}
+use Rattle.port.specs.Asks.{identify, read, unknown, heard, ordered}
+use Rattle.port.specs.Machine.{hears, act, after, reply, answer, shown, waited, identity}
 use Rattle.port.proofs.Building.{understood}
 use Rattle.port.proofs.Hearing.{status-heard, status-ordered}
-use Rattle.driver.specs.Frames.{status_frame, identify_frame, read_frame}
+use Rattle.driver.specs.Frames.{identify_frame, read_frame}
 use Rattle.driver.specs.Carries.{carried_out, asks_status}
 
 nothing : (d : List ℕ) → false ≡ true → 0 < length d

@@ -14,7 +14,8 @@ use Rattle.port.specs.declared.instruction.Operation.TheVariants.{WriteEnable, P
 use Rattle.port.specs.Instructions.{table}
 use Rattle.port.specs.Build.{built, listed}
 use Rattle.port.specs.Chip.{Chip, shape}
-use Rattle.port.specs.Machine.{enable, cycle, unknown, heard, hears, ordered, act, after, done, latched, takes}
+use Rattle.port.specs.Asks.{enable, cycle, unknown, heard, ordered}
+use Rattle.port.specs.Machine.{hears, act, after, done, latched, takes}
 use Rattle.port.proofs.Building.{understood}
 use Rattle.port.proofs.Hearing.{enable-heard, enable-ordered}
 use Rattle.part.specs.declared.outline.Outline.{Outline}

@@ -1,12 +1,13 @@
 -- Attaching, and its refusals.
 use Rattle.std.specs.Prelude.{ℕ, ◌+◌, cond, List, [], ◌∷◌, ◌++◌, replicate, Some, None, Option, nat_lt}
 use Rattle.memory.specs.Row.{Row, rowed}
+use Rattle.port.specs.Build.{status_frame}
 use Rattle.port.specs.Chip.{Chip}
 use Rattle.port.specs.Machine.{Frame}
 use Rattle.part.specs.Limit.{allowed}
 use Rattle.driver.specs.declared.fault.AttachFault.{AttachFault}
 use Rattle.driver.specs.declared.fault.AttachFault.TheVariants.{Limit, Busy}
-use Rattle.driver.specs.Frames.{identify_frame, status_frame}
+use Rattle.driver.specs.Frames.{identify_frame}
 
 abbrev pub row : AttachFault → Row
 row (Limit limit) = rowed 1 9 (limit ∷ [])

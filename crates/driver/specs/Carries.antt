@@ -2,7 +2,8 @@
 use Rattle.std.specs.Prelude.{◌≡◌, ℕ, ◌+◌, cond, List, [], ◌∷◌, ◌++◌}
 use Rattle.memory.specs.Cycle.{Cycle}
 use Rattle.port.specs.Chip.{Chip}
-use Rattle.port.specs.Machine.{Ask, enable, disable, status, identify, read, cycle, unknown, Frame, ordered, hears, takes, after}
+use Rattle.port.specs.Asks.{Ask, enable, disable, status, identify, read, cycle, unknown, ordered}
+use Rattle.port.specs.Machine.{Frame, hears, takes, after}
 
 -- the cycle that the chip carries out where it hears this, if any
 abbrev pub carried_out : Chip → Ask → List Cycle

@@ -5,14 +5,10 @@ use Rattle.memory.specs.declared.kind.Kind.TheVariants as of_kind
 use Rattle.memory.specs.Shape.{Shape, shaped}
 use Rattle.part.specs.declared.fault.PartFault.{PartFault}
 use Rattle.part.specs.Verdict.{inside, takes_length}
-use Rattle.port.specs.declared.instruction.Operation.TheVariants.{WriteEnable, ReadStatus, Identify, Read}
+use Rattle.port.specs.declared.instruction.Operation.TheVariants.{WriteEnable, Identify, Read}
 use Rattle.port.specs.Build.{built}
 use Rattle.port.specs.Operations.{operation_of}
 use Rattle.port.specs.Machine.{Frame, frame}
-
--- a status read for one byte, which is a poll
-abbrev pub status_frame : Frame
-status_frame = frame (built ReadStatus 0 []) 1
 
 abbrev pub identify_frame : Frame
 identify_frame = frame (built Identify 0 []) 3

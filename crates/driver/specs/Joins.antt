@@ -8,7 +8,8 @@ use Rattle.memory.specs.Cycle.{Cycle, effect, leads}
 use Rattle.memory.specs.Shape.{Shape, size}
 use Rattle.port.specs.Chip as of_chip
 use Rattle.port.specs.Chip.{Chip, shape}
-use Rattle.port.specs.Machine.{Ask, enable, disable, status, identify, read, cycle, unknown, Frame, hears, takes, done, act, after}
+use Rattle.port.specs.Asks.{Ask, enable, disable, status, identify, read, cycle, unknown}
+use Rattle.port.specs.Machine.{Frame, hears, takes, done, act, after}
 use Rattle.part.specs.declared.outline.Outline.{Outline}
 use Rattle.part.specs.Meaning.{Event, Sound, Tells, asked, carried, polled, cycles}
 use Rattle.part.specs.Outline.{outlined, guards}

@@ -1,9 +1,10 @@
 // Attaching a driver to the chip behind a port.
 ghost use Rattle.std.specs.Prelude.{◌≡◌, false, [], ◌∷◌, replicate, Some, None, MatchResult};
+ghost use Rattle.port.specs.Build.{status_frame};
 ghost use Rattle.driver.specs.declared.fault.AttachFault.TheVariants.{Limit, Busy};
 ghost use Rattle.driver.specs.Attach.{attach_frames, rested, unattached};
 ghost use Rattle.driver.specs.Driving.{Intact, lowered};
-ghost use Rattle.driver.specs.Frames.{identify_frame, status_frame};
+ghost use Rattle.driver.specs.Frames.{identify_frame};
 
 use crate::driver::Driver;
 use crate::fault::AttachFault;

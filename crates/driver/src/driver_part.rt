@@ -2,11 +2,12 @@
 ghost use Rattle.std.specs.Prelude.{◌≡◌, ◌-◌, ◌≤◌, true, false, not, [], ◌∷◌, ◌++◌, length, is_ok, if◌then◌else◌};
 ghost use Rattle.memory.specs.Page.{block};
 ghost use Rattle.memory.specs.Cycle.{cycle_of, effect};
+ghost use Rattle.port.specs.Build.{status_frame};
 ghost use Rattle.port.specs.Machine.{after, waited as polled_chip};
 ghost use Rattle.part.specs.Meaning.{asked, carried, polled, waited};
 ghost use Rattle.part.specs.Outline.{guarding, outlined};
 ghost use Rattle.part.specs.Verdict.{idle, read_verdict, refusal, told, verdict};
-ghost use Rattle.driver.specs.Frames.{cycle_frame, cycle_frames, enable_frame, reads, status_frame};
+ghost use Rattle.driver.specs.Frames.{cycle_frame, cycle_frames, enable_frame, reads};
 ghost use Rattle.driver.specs.Means.{driver_meaning, DriverTrace};
 ghost use Rattle.driver.specs.Joins.{seen-sound, drives_none, drives-++, drives-tells};
 

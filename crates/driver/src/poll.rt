@@ -1,7 +1,8 @@
 // Status reads, and the identification.
 ghost use Rattle.std.specs.Prelude.{◌≡◌, ◌+◌, ◌<◌, min, not, [], ◌∷◌, replicate, ◌==◌, nat_lt};
+ghost use Rattle.port.specs.Build.{status_frame};
 ghost use Rattle.port.specs.Machine.{shown, waited};
-ghost use Rattle.driver.specs.Frames.{identify_frame, status_frame};
+ghost use Rattle.driver.specs.Frames.{identify_frame};
 ghost use Rattle.driver.specs.Driving.{lowered};
 
 use crate::ask::ask;

@@ -1,58 +1,48 @@
 -- Parts of a text laid one after another over the start of a buffer.
 use Rattle.std.proofs.Common.{◌≡◌, ℕ, ◌+◌, ◌*◌, ◌<◌, ◌≤◌, cond, List, [], ◌∷◌, ◌++◌, length, get_or, take, drop, sym, refl, ap, ◌∙◌, append_assoc, add-zero, zero-add, arith, length-append}
-use borrow.Rule.Slice.PartMut.{put_mid}
 use Rattle.std.proofs.lemmas.List.{take_at, take-append-drop, drop-drop, take_more, length-take-le}
 use Rattle.std.proofs.lemmas.Slice.{drop-append-drop}
 use Rattle.std.proofs.lemmas.Bool.{eq-eqb, ne_eqb, le-leb}
+use Rattle.memory.specs.Page.{put}
 use Rattle.listing.specs.Parts.{exchange}
 use Rattle.listing.specs.Values.{over}
-use Rattle.listing.specs.Writing.{laid, pair_text, spaced_text, pairs_text, back_text, line_text}
+use Rattle.listing.specs.Writing.{pair_text, spaced_text, pairs_text, back_text, line_text}
 
 -- the buffer l with w over its start
 abbrev pub topped : List ℕ → List ℕ → List ℕ
 topped w l = w ++ drop (length w) l
 
-pub put-laid : (at k : ℕ) (l w ys : List ℕ) → ys ≡ w → k ≡ length w → put_mid at k l ys ≡ laid at w l
-unfolding laid
-put-laid at k l w ys e f =
-    ap (λ x. take at l ++ (x ++ drop k (drop at l))) e
-    ∙ ap (λ x. take at l ++ (w ++ x)) (drop-drop k at l ∙ ap (λ n. drop (at + n) l) f)
+pub put_start : (w l : List ℕ) → put 0 w l ≡ topped w l
+put_start w l = ap (λ n. w ++ drop n l) (zero-add (length w))
 
-pub laid_start : (w l : List ℕ) → laid 0 w l ≡ topped w l
-unfolding laid
-laid_start w l = ap (λ n. w ++ drop n l) (zero-add (length w))
-
-pub laid_next : (n : ℕ) (a b l : List ℕ) → n ≡ length a → length a + length b ≤ length l → laid n b (topped a l) ≡ topped (a ++ b) l
-unfolding laid
-laid_next n a b l e f =
+pub put_next : (n : ℕ) (a b l : List ℕ) → n ≡ length a → length a + length b ≤ length l → put n b (topped a l) ≡ topped (a ++ b) l
+put_next n a b l e f =
     let k = length-append a b in
     let m : n + length b ≡ length (a ++ b) = omega arith in
     ap (λ x. x ++ (b ++ drop (n + length b) (topped a l))) (take_at a (drop (length a) l) n (sym e))
     ∙ ap (λ x. a ++ (b ++ x)) (drop-append-drop (length a) l a (n + length b) (omega arith) refl ∙ ap (λ i. drop i l) m)
     ∙ sym (append_assoc a b (drop (length (a ++ b)) l))
 
-laid_top : (at : ℕ) (a l : List ℕ) → at + length a ≤ length l → laid at a l ≡ topped (take at l ++ a) l
-unfolding laid
-laid_top at a l h =
+put_top : (at : ℕ) (a l : List ℕ) → at + length a ≤ length l → put at a l ≡ topped (take at l ++ a) l
+put_top at a l h =
     let k = length-append (take at l) a in
     let m = length-take-le at l (omega arith) in
     let n : at + length a ≡ length (take at l ++ a) = omega arith in
     sym (append_assoc (take at l) a (drop (at + length a) l)) ∙ ap (λ i. (take at l ++ a) ++ drop i l) n
 
 -- two parts laid one after the other are laid at once
-pub laid_join : (at n : ℕ) (a b l : List ℕ) → n ≡ at + length a → n + length b ≤ length l → laid n b (laid at a l) ≡ laid at (a ++ b) l
-laid_join at n a b l e h =
+pub put_join : (at n : ℕ) (a b l : List ℕ) → n ≡ at + length a → n + length b ≤ length l → put n b (put at a l) ≡ put at (a ++ b) l
+put_join at n a b l e h =
     let k = length-append (take at l) a in
     let j = length-append a b in
     let m = length-take-le at l (omega arith) in
-    ap (laid n b) (laid_top at a l (omega arith))
-    ∙ laid_next n (take at l ++ a) b l (omega arith) (omega arith)
+    ap (put n b) (put_top at a l (omega arith))
+    ∙ put_next n (take at l ++ a) b l (omega arith) (omega arith)
     ∙ ap (λ y. topped y l) (append_assoc (take at l) a b)
-    ∙ sym (laid_top at (a ++ b) l (omega arith))
+    ∙ sym (put_top at (a ++ b) l (omega arith))
 
-pub laid_none : (at : ℕ) (l : List ℕ) → laid at [] l ≡ l
-unfolding laid
-laid_none at l = ap (λ n. take at l ++ drop n l) (add-zero at) ∙ take-append-drop at l
+pub put_none : (at : ℕ) (l : List ℕ) → put at [] l ≡ l
+put_none at l = ap (λ n. take at l ++ drop n l) (add-zero at) ∙ take-append-drop at l
 
 -- bytes after a space each
 pub spaced-size : (bs : List ℕ) → length (spaced_text bs) ≡ 3 * length bs

@@ -14,16 +14,17 @@ use Rattle.memory.proofs.Cycles.{length-effect, fits_page_facts}
 use Rattle.memory.proofs.Sizes.{product_most}
 use Rattle.port.specs.declared.instruction.Operation.TheVariants.{Program, Alter, Preset, SectorErase}
 use Rattle.port.specs.Instructions.{table}
-use Rattle.port.specs.Build.{built, listed}
+use Rattle.port.specs.Build.{built, listed, status_frame}
 use Rattle.port.specs.Chip.{Chip, shape}
-use Rattle.port.specs.Machine.{Ask, enable, cycle, heard, hears, ordered, act, after, done, latched, waited, takes}
+use Rattle.port.specs.Asks.{Ask, enable, cycle, heard, ordered}
+use Rattle.port.specs.Machine.{hears, act, after, done, latched, waited, takes}
 use Rattle.port.specs.Laws.{starts, carried_by}
 use Rattle.port.proofs.Building.{understood}
 use Rattle.port.proofs.Hearing.{enable-heard, status-heard}
 use Rattle.port.proofs.Lawful.{cycled}
 use Rattle.listing.specs.Parts.{Exchange}
 use Rattle.listing.specs.PlanFrames.{enabling, sending, plan_frames}
-use Rattle.listing.specs.Playing.{frame_of, status_read, once, Plays, ends, sends, polls, HasEffect}
+use Rattle.listing.specs.Playing.{frame_of, once, Plays, ends, sends, polls, HasEffect}
 
 -- a chip whose image has the length that its capacity byte says
 record Formed (c : Chip) : Type 0 where
@@ -174,8 +175,8 @@ SomePlay c xs ks = (d : Chip) × (zs : List Cycle) × Plays c xs ks d zs
 settles : (n : ℕ) (c : Chip) (xs : List Exchange) (ks : List ℕ) → c.busy ≡ n → ((b : Chip) → b.busy ≡ 0 → SomePlay b xs ks) → SomePlay c xs ks
 settles zero c xs ks e f = f c e
 settles (suc n) c xs ks e f =
-    let h : (after 0 c status_read).busy ≡ n = ap (λ (o : Ask). (act 0 c o).busy) (status-heard c) ∙ (let z : c.busy - 1 ≡ n = omega arith in z) in
-    let r = settles n (after 0 c status_read) xs ks h f in (r.0, once (carried_by c status_read) ++ r.1, polls 0 r.2)
+    let h : (after 0 c status_frame).busy ≡ n = ap (λ (o : Ask). (act 0 c o).busy) (status-heard c) ∙ (let z : c.busy - 1 ≡ n = omega arith in z) in
+    let r = settles n (after 0 c status_frame) xs ks h f in (r.0, once (carried_by c status_frame) ++ r.1, polls 0 r.2)
 
 some_play : (xs : List Exchange) (ks : List ℕ) → length ks ≡ length xs → (c : Chip) → c.busy ≡ 0 → SomePlay c xs ks
 some_play [] [] e c b = (c, [], ends b)

@@ -2,15 +2,16 @@
 use Rattle.std.proofs.Common.{◌≡◌, ℕ, ◌+◌, ◌≤◌, List, [], ◌∷◌, ◌++◌, length, drop, Some, None, Ok, Err, Option, Result, sym, refl, ap, ◌∙◌, subst, append_assoc, arith, length-append}
 use Rattle.std.proofs.Math.Nat.{suc-ne-zero}
 use Rattle.std.proofs.lemmas.List.{append-nil, length-drop}
+use Rattle.memory.specs.Page.{put}
 use Rattle.listing.specs.declared.fault.ListingFault.{ListingFault}
 use Rattle.listing.specs.declared.item.Line.{Line}
 use Rattle.listing.specs.Fault.{row, malformed_at}
 use Rattle.listing.specs.Parts.{Spot, spots_of, Exchange}
 use Rattle.listing.specs.Grammar.{Stops, Ending, ended, failed, Reads, over, broken, line}
 use Rattle.listing.specs.Promise.{Taken, Next, Measured, Refuses, Copied}
-use Rattle.listing.specs.Writing.{listing, laid, kept_of}
+use Rattle.listing.specs.Writing.{listing, kept_of}
 use Rattle.listing.proofs.Keeping.{listing_join, line_kept, kept-size}
-use Rattle.listing.proofs.Laying.{topped, laid_next}
+use Rattle.listing.proofs.Laying.{topped, put_next}
 use Rattle.listing.proofs.Single.{same_line, no_stop, unambiguous}
 
 -- the text up to line l, with `rest` left; its kept lines are n bytes
@@ -135,7 +136,7 @@ copying_room {was} p t =
     let e = length-drop (length p.written) was in omega arith
 
 pub copying_more : {text was left₀ left₁ : List ℕ} {l m at n : ℕ} {s left : List ℕ} {r : Line} → Copying text was left₀ l s at → Taken l m s left r →
-    left₁ ≡ laid at (kept_of (spots_of r)) left₀ → n ≡ at + length (kept_of (spots_of r)) → Copying text was left₁ m left n
+    left₁ ≡ put at (kept_of (spots_of r)) left₀ → n ≡ at + length (kept_of (spots_of r)) → Copying text was left₁ m left n
 copying_more {was} {at} {r} p t e f =
     let q = rest_of t p.reads in
     let K = kept_of (spots_of r) in
@@ -153,7 +154,7 @@ copying_more {was} {at} {r} p t e f =
       written = p.written ++ K;
       split = copying_split p t;
       place = omega arith;
-      buffer = e ∙ ap (laid at K) p.buffer ∙ laid_next at p.written K was d (omega arith);
+      buffer = e ∙ ap (put at K) p.buffer ∙ put_next at p.written K was d (omega arith);
     }
 
 -- at the end of the text all is written

@@ -1,25 +1,19 @@
 -- Parts of a text written one after another on a sheet.
 use Rattle.std.proofs.Common.{◌≡◌, ℕ, ◌+◌, ◌<◌, ◌≤◌, List, [], ◌∷◌, ◌++◌, length, get_or, take, drop, sym, refl, ap, ◌∙◌, subst, arith, length-append}
-use Rattle.std.proofs.lemmas.List.{length-drop, length-take-le, take-append-drop}
+use Rattle.std.proofs.lemmas.List.{take-append-drop}
+use Rattle.memory.specs.Page.{put}
+use Rattle.memory.proofs.Blocks.{length-put}
 use Rattle.listing.specs.declared.sheet.Sheet.{Sheet}
 use Rattle.listing.specs.Parts.{exchange}
 use Rattle.listing.specs.Sheets.{Room, Wrote}
-use Rattle.listing.specs.Writing.{laid, pair_text, spaced_text, back_text, line_text}
-use Rattle.listing.proofs.Laying.{laid_join, laid_none, spaced_join, spaced_more, line-parts}
-
-laid-size : (at : ℕ) (w l : List ℕ) → at + length w ≤ length l → length (laid at w l) ≡ length l
-unfolding laid
-laid-size at w l h =
-    let a = length-append (take at l) (w ++ drop (at + length w) l) in
-    let b = length-append w (drop (at + length w) l) in
-    let c = length-take-le at l (omega arith) in
-    let d = length-drop (at + length w) l in omega arith
+use Rattle.listing.specs.Writing.{pair_text, spaced_text, back_text, line_text}
+use Rattle.listing.proofs.Laying.{put_join, put_none, spaced_join, spaced_more, line-parts}
 
 -- nothing, and a text that is the same
 pub wrote_none : (p : Sheet) {w : List ℕ} → w ≡ [] → Wrote p p w
 wrote_none p e =
     let n = ap length e in
-    record { same = refl; place = omega arith; buffer = sym (ap (λ y. laid p.at y p.into.now) e ∙ laid_none p.at p.into.now) }
+    record { same = refl; place = omega arith; buffer = sym (ap (λ y. put p.at y p.into.now) e ∙ put_none p.at p.into.now) }
 
 pub wrote_is : {p q : Sheet} {v w : List ℕ} → Wrote p q v → v ≡ w → Wrote p q w
 wrote_is {p} {q} x e = let P : List ℕ → Type 0 = Wrote p q in subst P e x
@@ -32,7 +26,7 @@ pub room_next : {p q : Sheet} {w a : List ℕ} (b : List ℕ) → w ≡ a ++ b �
 room_next {p} {q} {w} {a} b e h x =
     let m = ap length e in
     let n = length-append a b in
-    let s = ap length x.buffer ∙ laid-size p.at a p.into.now (omega arith) in
+    let s = ap length x.buffer ∙ length-put p.at a p.into.now (omega arith) in
     let k = x.place in omega arith
 
 pub wrote_join : {p q r : Sheet} {w a b : List ℕ} → w ≡ a ++ b → Room p w → Wrote p q a → Wrote q r b → Wrote p r w
@@ -45,9 +39,9 @@ wrote_join {p} {q} {r} {w} {a} {b} e h x y =
       same = y.same ∙ x.same;
       place = omega arith;
       buffer =
-          y.buffer ∙ ap (laid q.at b) x.buffer
-          ∙ laid_join p.at q.at a b p.into.now k (omega arith)
-          ∙ ap (λ z. laid p.at z p.into.now) (sym e);
+          y.buffer ∙ ap (put q.at b) x.buffer
+          ∙ put_join p.at q.at a b p.into.now k (omega arith)
+          ∙ ap (λ z. put p.at z p.into.now) (sym e);
     }
 
 -- one more byte after a space
@@ -99,7 +93,7 @@ module _ (p : Sheet) (c n : ℕ) (bs : List ℕ) (h : Room p (line_text (exchang
   line_wrote x y z u = wrote_join (line-parts c bs n) h (wrote_join refl front (wrote_join refl bytes x y) z) u
 
 -- a text on a new sheet
-pub sheet_text : {p q : Sheet} {w was : List ℕ} → p.at ≡ 0 → p.into.now ≡ was → Wrote p q w → (q.at ≡ length w) × (q.into.now ≡ laid 0 w was)
+pub sheet_text : {p q : Sheet} {w was : List ℕ} → p.at ≡ 0 → p.into.now ≡ was → Wrote p q w → (q.at ≡ length w) × (q.into.now ≡ put 0 w was)
 sheet_text {p} {q} {w} {was} z e x =
     let n = x.place in
-    (omega arith, x.buffer ∙ ap (λ i. laid i w p.into.now) z ∙ ap (laid 0 w) e)
+    (omega arith, x.buffer ∙ ap (λ i. put i w p.into.now) z ∙ ap (put 0 w) e)

@@ -2,8 +2,7 @@
 use Rattle.std.specs.Prelude.{◌≡◌, ℕ, List, [], ◌∷◌, ◌++◌, length, Some, None, Option}
 use Rattle.memory.specs.Protection.{protects}
 use Rattle.memory.specs.Cycle.{Cycle, Goes}
-use Rattle.port.specs.declared.instruction.Operation.TheVariants.{ReadStatus}
-use Rattle.port.specs.Build.{built}
+use Rattle.port.specs.Build.{status_frame}
 use Rattle.port.specs.Chip.{Chip, Sound, shape}
 use Rattle.port.specs.Machine.{Frame, frame, after}
 use Rattle.port.specs.Laws.{carried_by}
@@ -13,10 +12,6 @@ use Rattle.listing.specs.PlanFrames.{plan_frames}
 -- what is listed, as the machine has it
 abbrev pub frame_of : Exchange → Frame
 frame_of x = frame x.sent x.back
-
--- a status read for one byte
-abbrev pub status_read : Frame
-status_read = frame (built ReadStatus 0 []) 1
 
 abbrev pub once : Option Cycle → List Cycle
 once None = []
@@ -30,7 +25,7 @@ pub data Plays : Chip → List Exchange → List ℕ → Chip → List Cycle →
   sends : {c d : Chip} {x : Exchange} {xs : List Exchange} {k : ℕ} {ks : List ℕ} {ys : List Cycle}
       → c.busy ≡ 0 → Plays (after k c (frame_of x)) xs ks d ys → Plays c (x ∷ xs) (k ∷ ks) d (once (carried_by c (frame_of x)) ++ ys)
   polls : {c d : Chip} {xs : List Exchange} {ks : List ℕ} {ys : List Cycle} (k : ℕ)
-      → Plays (after k c status_read) xs ks d ys → Plays c xs ks d (once (carried_by c status_read) ++ ys)
+      → Plays (after k c status_frame) xs ks d ys → Plays c xs ks d (once (carried_by c status_frame) ++ ys)
 
 -- what the frames of cycles that lead to an image do to a chip
 pub record Effected (c : Chip) (cycles : List Cycle) (to : List ℕ) : Type 0 where

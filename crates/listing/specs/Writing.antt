@@ -61,10 +61,6 @@ unfoldable pub Noteless : List Spot → Type 0
 Noteless [] = Unit {0}
 Noteless (i ∷ is) = Kept i.part × Noteless is
 
--- the buffer l after w was written from `at` on
-unfoldable pub laid : ℕ → List ℕ → List ℕ → List ℕ
-laid at w l = take at l ++ (w ++ drop (at + length w) l)
-
 abbrev pub text_of : Part → List ℕ
 text_of (note s) = s
 text_of (frame s) = s

@@ -44,7 +44,7 @@ fn put_frame(operation: Operation, address: usize, data: &[u8], sheet: &mut Shee
 {
     // There is no heap here: the frame is put together in a fixed buffer, of which it takes the first n bytes.
     let mut frame = [0; LONGEST_BUILT];
-    let Ok(n) = build(operation, address, data, &mut frame) else {
+    let Some(n) = build(operation, address, data, &mut frame) else {
         unreachable!()
     };
     put_bytes(&frame[..n], sheet);

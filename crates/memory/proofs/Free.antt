@@ -48,7 +48,7 @@ free_is p n = sym (and-true _) ∙ none_of p 0 n ∙ ap (free p) (zero-add n)
 abbrev fielded : ℕ → ℕ
 fielded st = cond (eqb (bit_and st 64) 0) (cond (eqb (block_protect st) 0) 0 1) 1
 
-abbrev masked : ℕ → ℕ
+abbrev pub masked : ℕ → ℕ
 masked st = cond (eqb (bit_and st 0x5C) 0) 0 1
 
 fields : (st : ℕ) → st < 256 → fielded st ≡ masked st

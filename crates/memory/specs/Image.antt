@@ -23,6 +23,11 @@ abbrev pub unmade : ℕ → ℕ → ℕ → Option ImageFault
 unmade sectors pages bytes =
     cond (in_range sectors pages) (cond (bytes == size (shaped sectors pages)) None (Some Length)) (Some Geometry)
 
+-- which check failed, as the rows of every making that needs an image have it
+abbrev pub which : ImageFault → ℕ
+which Geometry = 1
+which Length = 2
+
 -- what a page cycle of this kind makes of the old byte and the one sent
 abbrev pub rule : Kind → ℕ → ℕ → ℕ
 rule Program = bit_and

@@ -1,56 +1,16 @@
-// An image made, read and altered.
-ghost use Rattle.std.specs.Prelude.{◌≡◌, ◌/◌, length, Some, None, vec_len, MatchResult};
-ghost use Rattle.memory.specs.Shape.{shaped, size};
+// An image read and altered.
+ghost use Rattle.std.specs.Prelude.{◌≡◌, ◌/◌, length};
 ghost use Rattle.memory.specs.Page.{blank, page};
 ghost use Rattle.memory.specs.Cycle.{cycle_of};
-ghost use Rattle.memory.specs.Image.{bytes_of, carried, rolled, shape_of, unmade};
+ghost use Rattle.memory.specs.Image.{bytes_of, carried, rolled, shape_of};
 
 use crate::bytes::{fill, is_blank, roll};
-use crate::geometry::Geometry;
-use crate::image::{Image, ImageFault, Unmade};
+use crate::image::Image;
 use crate::kind::Kind;
 use crate::model::{PAGE_BYTES, page_start};
 use crate::page::{erase, write};
 
 impl Image {
-    // The caller's bytes as an image; they are handed back where they cannot be one. No `Geometry`: counts out of range are refused
-    // here too.
-    pub fn new(sectors: usize, pages: usize, bytes: Vec<u8>) -> Result<Image, Unmade<ImageFault>>
-        ensures { MatchResult result
-            (λ i. (unmade sectors pages (vec_len bytes) ≡ None) × (i.geometry.sectors ≡ sectors) × (i.geometry.pages ≡ pages) × (i.bytes ≡ bytes))
-            (λ e. (unmade sectors pages (vec_len bytes) ≡ Some e.fault) × (e.bytes ≡ bytes)) }
-    {
-        match Geometry::new(sectors, pages) {
-            Some(geometry) => Image::with_geometry(geometry, bytes),
-            None => Err(Unmade {
-                fault: ImageFault::Geometry,
-                bytes,
-            }),
-        }
-    }
-
-    // The same where the counts are known to be in range.
-    pub fn with_geometry(geometry: Geometry, bytes: Vec<u8>) -> Result<Image, Unmade<ImageFault>>
-        ensures { MatchResult result
-            (λ i. (unmade geometry.sectors geometry.pages (vec_len bytes) ≡ None) × (i.geometry ≡ geometry) × (i.bytes ≡ bytes))
-            (λ e. (unmade geometry.sectors geometry.pages (vec_len bytes) ≡ Some e.fault) × (e.bytes ≡ bytes)) }
-    {
-        if bytes.len() != geometry.size() {
-            return Err(Unmade {
-                fault: ImageFault::Length,
-                bytes,
-            });
-        }
-        Ok(Image { geometry, bytes })
-    }
-
-    pub fn into_bytes(self) -> Vec<u8>
-        ensures { result ≡ self.bytes }
-    {
-        let Image { geometry: _, bytes } = self;
-        bytes
-    }
-
     pub fn len(&self) -> usize
         ensures { result ≡ length (bytes_of self.now) }
     {
@@ -64,7 +24,7 @@ impl Image {
         roll(&self.bytes, address, into);
     }
 
-    // If the page that holds the address is wholly FFh. Past the end there is no page, so nothing else than FFh.
+    // If the page that holds the address is wholly FFh. Past the end there is no page, and so no byte that is not.
     pub fn is_page_blank(&self, address: usize) -> bool
         ensures { result ≡ blank (page 64 (address / 64) (bytes_of self.now)) }
     {

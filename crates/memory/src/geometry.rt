@@ -11,6 +11,8 @@ pub const MOST_PAGES: usize = 2048;
 // The bytes of the largest memory.
 pub const MOST_BYTES: usize = MOST_SECTORS * MOST_PAGES * PAGE_BYTES;
 
+const _: () = prove!(MOST_BYTES == 16_777_216);
+
 // 1 to 128 sectors of 1 to 2,048 pages.
 #[derive(Clone, Copy, PartialEq, Eq, Debug)]
 pub struct Geometry {

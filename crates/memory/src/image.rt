@@ -12,27 +12,6 @@ pub enum ImageFault {
     Length,
 }
 
-// The bytes that could not be made into something, handed back with the reason.
-#[derive(Drop)]
-pub struct Unmade<F> {
-    pub fault: F,
-    pub bytes: Vec<u8>,
-}
-
-impl<F> Unmade<F> {
-    // The same bytes, with the reason as another enum has it.
-    pub fn convert<G: From<F>>(self) -> Unmade<G>
-        ensures fault { G.from_gives self.fault result.fault }
-        ensures bytes { result.bytes ≡ self.bytes }
-    {
-        let Unmade { fault, bytes } = self;
-        Unmade {
-            fault: G::from(fault),
-            bytes,
-        }
-    }
-}
-
 // The bytes of a memory, divided into sectors of pages of 64 bytes.
 #[derive(Drop)]
 pub struct Image {

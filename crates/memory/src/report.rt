@@ -102,3 +102,28 @@ impl fmt::Display for Report {
         }
     }
 }
+
+#[cfg(test)]
+mod tests {
+    use super::*;
+    use std::alloc::{AllocError, Global};
+    use std::test::Fail;
+
+    // If a report of the layer is shown so, with one value and with two.
+    fn is_shown(heap: Global, layer: Layer, one: &str, two: &str) -> Result<bool, AllocError> {
+        let first = format!(in heap; "{}", Report::one(layer, Cause::Outside, 0))?;
+        let second = format!(in heap; "{}", Report::two(layer, Cause::TextShort, 7, 4096))?;
+        Ok(first.as_str() == one && second.as_str() == two)
+    }
+
+    // As `docs/refusals.md` numbers layers and causes.
+    #[test]
+    fn shows_each_layer(rt: HostRuntime) -> Result<(), Fail> {
+        let heap = rt.alloc();
+        assert!(rt; is_shown(heap, Layer::Caller, "1 1 0", "1 14 7 4096")?);
+        assert!(rt; is_shown(heap, Layer::Part, "2 1 0", "2 14 7 4096")?);
+        assert!(rt; is_shown(heap, Layer::Port, "3 1 0", "3 14 7 4096")?);
+        assert!(rt; is_shown(heap, Layer::Listing, "4 1 0", "4 14 7 4096")?);
+        Ok(())
+    }
+}

@@ -3,16 +3,20 @@ ghost use Rattle.std.specs.Prelude.{◌≡◌, Some, None, vec_len, MatchResult}
 ghost use Rattle.part.specs.Verdict.{clean_at, presets};
 ghost use Rattle.part.specs.Outline.{Outlines};
 ghost use Rattle.part.specs.Plain.{fresh, imaging, plainly, unmade};
+ghost use Rattle.part.specs.Rows.{which};
+ghost use Rattle.memory.specs.Image as of_image;
 
 use crate::fault::PlainMaking;
 use crate::outline::Outline;
 use crate::plain::PlainImage;
-use memory::image::{Image, ImageFault, Unmade};
+use memory::image::{Image, ImageFault};
 use memory::kind::Kind;
 use memory::protection::Status;
+use memory::unmade::Unmade;
 
+// An image that cannot be made is told with the same value.
 impl From<ImageFault> for PlainMaking {
-    ghost from_gives = { λ fault making. making ≡ imaging fault };
+    ghost from_gives = { λ fault making. (making ≡ imaging fault) × (which making ≡ of_image.which fault) };
 
     fn from(fault: ImageFault) -> PlainMaking {
         match fault {

@@ -10,7 +10,7 @@ use Rattle.port.specs.declared.instruction.Operation.{Operation}
 use Rattle.port.specs.declared.instruction.Operation.TheVariants.{WriteEnable, WriteDisable, ReadStatus, Identify, Read, FastRead, Program, Alter, Preset, SectorErase, BulkErase}
 use Rattle.port.specs.declared.instruction.Instruction.{Instruction}
 use Rattle.port.specs.Instructions.{table, allows}
-use Rattle.port.specs.Machine.{meant, read, cycle, unknown, shaped_by, address_in, data_in}
+use Rattle.port.specs.Asks.{meant, read, cycle, unknown, shaped_by, address_in, data_in}
 use Rattle.memory.specs.Cycle.{sector_erase}
 use Rattle.port.specs.Build.{Understood, listed, built, high_first, carried_by, headed}
 

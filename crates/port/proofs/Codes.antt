@@ -8,7 +8,8 @@ use Rattle.port.specs.declared.instruction.Instruction.{Instruction}
 use Rattle.port.specs.Instructions.{table, lookup, fits}
 use Rattle.port.specs.Build.{listed}
 use Rattle.port.specs.Chip.{Chip}
-use Rattle.port.specs.Machine.{Ask, enable, disable, status, identify, read, cycle, unknown, Frame, frame, heard, hears, inside, polled, ordered, shaped_by, address_in, data_in}
+use Rattle.port.specs.Asks.{Ask, enable, disable, status, identify, read, cycle, unknown, heard, inside, polled, ordered, shaped_by, address_in, data_in}
+use Rattle.port.specs.Machine.{Frame, frame, hears}
 use Rattle.port.specs.Laws.{Hears, spelt, OnChip, Listed, code_06, code_04, code_05, code_9F, code_03, code_0B, code_02, code_22, code_D1, code_D8, code_C7}
 use Rattle.port.proofs.Building.{page-frame}
 
@@ -52,9 +53,9 @@ erases : (a2 a1 a0 : ℕ) → ordered (0xD8 ∷ a2 ∷ a1 ∷ a0 ∷ []) 0 ≡ c
 unfolding table
 erases a2 a1 a0 = refl
 
-erases-all : ordered (0xC7 ∷ []) 0 ≡ cycle bulk_erase
+erases_all : ordered (0xC7 ∷ []) 0 ≡ cycle bulk_erase
 unfolding table
-erases-all = refl
+erases_all = refl
 
 -- an order that is asked while busy too
 same_heard : (c : Chip) (o : Ask) (s : List ℕ) (n : ℕ) → ordered s n ≡ o → (inside (length c.image) o ≡ o) → (polled o ≡ o) → hears c (frame s n) ≡ o
@@ -81,7 +82,7 @@ module _ (c : Chip) (idle : c.busy ≡ 0) where
         alters = λ x xs a2 a1 a0 h. heard_as (0x22 ∷ a2 ∷ a1 ∷ a0 ∷ x ∷ xs) 0 _ (alters a2 a1 a0 x xs) (cond-true _ _ _ (lt-ltb _ _ h));
         presets = λ x xs a2 a1 a0 h. heard_as (0xD1 ∷ a2 ∷ a1 ∷ a0 ∷ x ∷ xs) 0 _ (presets a2 a1 a0 x xs) (cond-true _ _ _ (lt-ltb _ _ h));
         erases = λ a2 a1 a0 h. heard_as (0xD8 ∷ a2 ∷ a1 ∷ a0 ∷ []) 0 _ (erases a2 a1 a0) (cond-true _ _ _ (lt-ltb _ _ h));
-        erases-all = heard_as (0xC7 ∷ []) 0 (cycle bulk_erase) erases-all refl;
+        erases_all = heard_as (0xC7 ∷ []) 0 (cycle bulk_erase) erases_all refl;
       }
 
 -- an instruction of this code does not fit a frame of another shape

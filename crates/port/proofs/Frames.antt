@@ -3,7 +3,7 @@ use Rattle.std.proofs.Common.{◌≡◌, ℕ, suc, ◌+◌, ◌-◌, ◌*◌, �
 use Rattle.std.proofs.lemmas.List.{get_or-drop, drop-drop}
 use Rattle.std.proofs.lemmas.Bool.{cond-true, le-leb}
 use Rattle.port.specs.Instructions.{table, lookup}
-use Rattle.port.specs.Machine.{ordered, shaped_by, address_in, data_in}
+use Rattle.port.specs.Asks.{ordered, shaped_by, address_in, data_in}
 
 pub ordered_is : (s : List ℕ) (n : ℕ) → 0 < length s
     → ordered s n ≡ shaped_by (lookup table (get_or s 0 0)) (length s - 1) n (address_in (drop 1 s)) (data_in (drop 1 s))

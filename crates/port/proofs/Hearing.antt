@@ -5,7 +5,8 @@ use Rattle.port.specs.declared.instruction.Operation.TheVariants.{WriteEnable, R
 use Rattle.port.specs.Instructions.{table}
 use Rattle.port.specs.Build.{built, listed}
 use Rattle.port.specs.Chip.{Chip}
-use Rattle.port.specs.Machine.{enable, status, frame, heard, hears, ordered}
+use Rattle.port.specs.Asks.{enable, status, heard, ordered}
+use Rattle.port.specs.Machine.{frame, hears}
 
 pub enable-ordered : ordered (built WriteEnable 0 []) 0 ≡ enable
 unfolding table listed built

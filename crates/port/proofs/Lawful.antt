@@ -14,12 +14,13 @@ use Rattle.memory.proofs.Pages.{Real}
 use Rattle.memory.proofs.Protected.{none_protected}
 use Rattle.memory.proofs.Off.{written_off, erased_off}
 use Rattle.port.specs.Chip.{Chip, Sound, shape}
-use Rattle.port.specs.Machine.{Ask, enable, disable, status, identify, read, cycle, unknown, Frame, hears, heard, inside, polled, ordered, takes, opens, reply, answer, act, after, done}
+use Rattle.port.specs.Asks.{Ask, enable, disable, status, identify, read, cycle, unknown, heard, inside, polled, ordered}
+use Rattle.port.specs.Machine.{Frame, hears, takes, opens, reply, answer, act, after, done}
 use Rattle.port.specs.Laws.{starts, carried_by, Within, Needs, Leaves, MachineLaws}
 use Rattle.port.proofs.Codes.{codes, polls, no_other, no_code, on_chip}
 use Rattle.port.proofs.Placed.{lays, erases}
 use Rattle.port.proofs.Taken.{latched_for, needed, taken}
-use Rattle.port.proofs.Answered.{length-reply, shows, identifies, identifies-three}
+use Rattle.port.proofs.Answered.{length-reply, shows, either, identifies, identifies_three}
 
 pub ignored : (k w : ℕ) (c : Chip) (f : Frame) → hears c f ≡ unknown → (after k c f ≡ c) × (answer w c f ≡ replicate f.wanted 255)
 ignored k w c f e = (ap (act k c) e, ap (λ o. reply w c o f.wanted) e)
@@ -56,8 +57,8 @@ idle-act k c (cycle y) e = go (takes c y) e
     go false e = refl
 idle-act k c unknown e = refl
 
-pub idle-image : (k : ℕ) (c : Chip) (f : Frame) → carried_by c f ≡ None → (after k c f).image ≡ c.image
-idle-image k c f e = idle-act k c (hears c f) e
+pub idle_image : (k : ℕ) (c : Chip) (f : Frame) → carried_by c f ≡ None → (after k c f).image ≡ c.image
+idle_image k c f e = idle-act k c (hears c f) e
 
 -- an order that starts a cycle asks for it, and it is taken
 started : (c : Chip) (o : Ask) (y : Cycle) → starts c o ≡ Some y → (o ≡ cycle y) × (takes c y ≡ true)
@@ -73,8 +74,8 @@ started c unknown y e = absurd (none-some y e)
 pub cycled : (k : ℕ) (c : Chip) (f : Frame) (y : Cycle) → carried_by c f ≡ Some y → after k c f ≡ done k c (effect (shape c) y c.image)
 cycled k c f y e = let s = started c (hears c f) y e in ap (act k c) s.0 ∙ cond-true _ _ _ s.1
 
-pub cycle-image : (k : ℕ) (c : Chip) (f : Frame) (y : Cycle) → carried_by c f ≡ Some y → (after k c f).image ≡ effect (shape c) y c.image
-cycle-image k c f y e = ap (λ d. d.image) (cycled k c f y e)
+pub cycle_image : (k : ℕ) (c : Chip) (f : Frame) (y : Cycle) → carried_by c f ≡ Some y → (after k c f).image ≡ effect (shape c) y c.image
+cycle_image k c f y e = ap (λ d. d.image) (cycled k c f y e)
 
 -- a cycle that is heard has its address on the chip
 reached : (size : ℕ) (o : Ask) (y : Cycle) → inside size o ≡ cycle y → reaches size y ≡ true
@@ -118,7 +119,7 @@ module _ (c : Chip) (S : Sound c) where
   pub elsewhere : (k : ℕ) (f : Frame) (y : Cycle) → carried_by c f ≡ Some y → (i : ℕ) → (Within c y i → ⊥) → get_or (after k c f).image i 0 ≡ get_or c.image i 0
   elsewhere k f y e i n =
       let r = heard-reaches c.busy (length c.image) (ordered f.sent f.wanted) y (started c (hears c f) y e).0 in
-      ap (λ l. get_or l i 0) (cycle-image k c f y e) ∙ elsewhere_by y r i n
+      ap (λ l. get_or l i 0) (cycle_image k c f y e) ∙ elsewhere_by y r i n
 
   leaves_by : (y : Cycle) → reaches (length c.image) y ≡ true → Leaves c y (effect (shape c) y c.image)
   leaves_by (program a d) r = lays (shape c) R c.image S.imaged.whole bit_and a d (ltb-true _ _ r)
@@ -129,7 +130,7 @@ module _ (c : Chip) (S : Sound c) where
 
   pub leaves : (k : ℕ) (f : Frame) (y : Cycle) → carried_by c f ≡ Some y → Leaves c y (after k c f).image
   leaves k f y e =
-      subst (Leaves c y) (sym (cycle-image k c f y e))
+      subst (Leaves c y) (sym (cycle_image k c f y e))
       (leaves_by y (heard-reaches c.busy (length c.image) (ordered f.sent f.wanted) y (started c (hears c f) y e).0))
 
   -- an open address is in no protected sector
@@ -149,7 +150,7 @@ module _ (c : Chip) (S : Sound c) where
   protected k f i p = go (carried_by c f) refl
     where
       go : (o : Option Cycle) → carried_by c f ≡ o → get_or (after k c f).image i 0 ≡ get_or c.image i 0
-      go None e = ap (λ l. get_or l i 0) (idle-image k c f e)
+      go None e = ap (λ l. get_or l i 0) (idle_image k c f e)
       go (Some y) e = elsewhere k f y e i (clear_of y (started c (hears c f) y e).1 i p)
 
 -- the latch, and what never changes
@@ -220,18 +221,18 @@ lawful =
       no_other = no_other;
       no_code = no_code;
       on_chip = on_chip;
-      idle-image = idle-image;
-      cycle-image = cycle-image;
+      idle_image = idle_image;
+      cycle_image = cycle_image;
       leaves = λ k c S. leaves c S k;
       page = λ c. page-bytes c.capacity;
       elsewhere = λ k c S. elsewhere c S k;
       protected = λ k c S. protected c S k;
       latch = λ k c f. latch-act k c (hears c f);
-      latch-set = λ k c f e. ap (λ o. (act k c o).latch) e;
+      latch_set = λ k c f e. ap (λ o. (act k c o).latch) e;
       latch_cleared = λ k c f e. ap (λ o. (act k c o).latch) e;
-      latch-spent = λ k c f y e. ap (λ d. d.latch) (cycled k c f y e);
+      latch_spent = λ k c f y e. ap (λ d. d.latch) (cycled k c f y e);
       carries = carries;
-      needs-latch = λ c f y e. latched_for c y (started c (hears c f) y e).1;
+      needs_latch = λ c f y e. latched_for c y (started c (hears c f) y e).1;
       needs = λ c S f y e. needed c S y (started c (hears c f) y e).1;
       counts = λ k c f e. ap (λ o. (act k c o).busy) e;
       sets = λ k c f y e. ap (λ d. d.busy) (cycled k c f y e);
@@ -240,6 +241,7 @@ lawful =
       filled = λ w c f. length-reply w c (hears c f) f.wanted;
       reads = λ w c f a i e h. ap (λ o. get_or (reply w c o f.wanted) i 0) e ∙ rolls c.image a f.wanted i h;
       shows = shows;
+      either = either;
       identifies = identifies;
-      identifies-three = identifies-three;
+      identifies_three = identifies_three;
     }

@@ -8,13 +8,10 @@ use Rattle.memory.specs.Shape.{Shape, size, sector_at}
 use Rattle.memory.specs.Page.{put, page, laid, joint, merged, cover, written}
 use Rattle.memory.specs.Cycle.{sector_erase, effect, sector_start}
 use Rattle.memory.proofs.Blocks.{get_or-block}
-use Rattle.memory.proofs.Covers.{laid_off, cover_off, length_merged, get_or-merged}
+use Rattle.memory.proofs.Covers.{next, laid_off, cover_off, length_merged, get_or-merged}
 use Rattle.memory.proofs.Pages.{Real, length-page, page-fits, sector-fits, page_and_sector, in_its_sector}
 use Rattle.memory.proofs.Off.{written_off}
 use Rattle.port.specs.Laws.{place, Lays}
-
-next : (a j : ℕ) → a + suc j ≡ suc a + j
-next a j = omega arith
 
 -- the last item for a place is the one that lies there
 laid_last :

@@ -5,7 +5,8 @@ use Rattle.std.proofs.lemmas.Nat.{and_mod, and_le_r}
 use Rattle.std.proofs.lemmas.Bool.Decides.{nat_tests}
 use Rattle.memory.specs.Cycle.{effect}
 use Rattle.port.specs.Chip.{Chip, shape}
-use Rattle.port.specs.Machine.{Ask, enable, disable, status, identify, read, cycle, unknown, reply, shown, act, after, answer, hears, done, takes, Frame, Runs, none, step}
+use Rattle.port.specs.Asks.{Ask, enable, disable, status, identify, read, cycle, unknown}
+use Rattle.port.specs.Machine.{reply, shown, act, after, answer, hears, done, takes, Frame, Runs, none, step}
 
 -- a chip is what its own busy count makes of it
 either : (b : Bool) (k : ℕ) (c : Chip) (l : List ℕ) → cond b (done k c l) c ≡ cond b (done (cond b (done k c l) c).busy c l) c

@@ -8,7 +8,7 @@ use Rattle.std.proofs.lemmas.Bool.Decides.{nat_tests}
 use Rattle.memory.specs.Page.{page, blank}
 use Rattle.memory.specs.Protection.{free}
 use Rattle.memory.specs.Cycle.{Cycle, program, alter, preset, sector_erase, bulk_erase}
-use Rattle.memory.proofs.Free.{free_at}
+use Rattle.memory.proofs.Free.{free_at, masked}
 use Rattle.memory.proofs.Models.{page-bytes}
 use Rattle.port.specs.Chip.{Chip, Sound, shape}
 use Rattle.port.specs.Machine.{takes, opens}
@@ -50,9 +50,6 @@ each_blank z q image a = all_ff (page z q image) at
 -- the four BP bits, looked at as one mask and as bit 6 and bits 4 to 2, agree at every byte
 abbrev fielded : ℕ → ℕ
 fielded st = cond (eqb (st / 64 % 2) 0) (cond (eqb (st / 4 % 8) 0) 0 1) 1
-
-abbrev masked : ℕ → ℕ
-masked st = cond (eqb (bit_and st 0x5C) 0) 0 1
 
 fields : (st : ℕ) → st < 256 → fielded st ≡ masked st
 fields st h =

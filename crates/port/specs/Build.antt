@@ -5,7 +5,8 @@ use Rattle.port.specs.declared.instruction.Operation.TheVariants.{WriteEnable, W
 use Rattle.port.specs.declared.instruction.Back.TheVariants.{Nothing}
 use Rattle.port.specs.declared.instruction.Instruction.{Instruction}
 use Rattle.port.specs.Instructions.{table, allows}
-use Rattle.port.specs.Machine.{meant, ordered, unknown}
+use Rattle.port.specs.Asks.{meant, ordered, unknown}
+use Rattle.port.specs.Machine.{Frame, frame}
 
 -- the place of an operation in the table
 abbrev pub place : Operation → ℕ
@@ -42,6 +43,10 @@ headed i address sent = i.code ∷ (high_first i.address_bytes address ++ (repli
 -- the bytes of a frame
 unfoldable pub built : Operation → ℕ → List ℕ → List ℕ
 built o address sent = headed (listed o) address (carried_by (listed o).has_data sent)
+
+-- a status read for one byte, which is a poll
+abbrev pub status_frame : Frame
+status_frame = frame (built ReadStatus 0 []) 1
 
 -- THE BUILDER'S LAW. The chip machine takes a built frame apart again as meant, if its address has three bytes, there
 -- are data where the operation carries some, and no more bytes are wanted back than it may give.

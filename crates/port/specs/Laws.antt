@@ -4,7 +4,8 @@ use Rattle.memory.specs.Shape.{sector_at}
 use Rattle.memory.specs.Protection.{protects}
 use Rattle.memory.specs.Cycle.{Cycle, program, alter, preset, sector_erase, bulk_erase, effect}
 use Rattle.port.specs.Chip.{Chip, Sound, shape}
-use Rattle.port.specs.Machine.{Ask, enable, disable, status, identify, read, cycle, unknown, Frame, frame, hears, takes, answer, after}
+use Rattle.port.specs.Asks.{Ask, enable, disable, status, identify, read, cycle, unknown}
+use Rattle.port.specs.Machine.{Frame, frame, hears, takes, answer, after}
 
 -- the cycle that an order starts, if any
 abbrev pub starts : Chip → Ask → Option Cycle
@@ -84,7 +85,7 @@ pub record Hears (c : Chip) : Type 0 where
   pub alters : (x : ℕ) (xs : List ℕ) → HeardAt c 0x22 (x ∷ xs) 0 (λ a. cycle (alter a (x ∷ xs)))
   pub presets : (x : ℕ) (xs : List ℕ) → HeardAt c 0xD1 (x ∷ xs) 0 (λ a. cycle (preset a (x ∷ xs)))
   pub erases : HeardAt c 0xD8 [] 0 (λ a. cycle (sector_erase a))
-  pub erases-all : hears c (frame (0xC7 ∷ []) 0) ≡ cycle bulk_erase
+  pub erases_all : hears c (frame (0xC7 ∷ []) 0) ≡ cycle bulk_erase
 
 -- the address of what is heard, if it has one, lies on the chip
 abbrev pub OnChip : Chip → Ask → Type 0
@@ -138,8 +139,8 @@ pub record MachineLaws : Type 0 where
   -- nor is anything heard of an address past the end
   pub on_chip : (c : Chip) (f : Frame) → OnChip c (hears c f)
   -- nothing but a cycle that is carried out alters the image, and then it is the cycle's effect
-  pub idle-image : (k : ℕ) (c : Chip) (f : Frame) → carried_by c f ≡ None → (after k c f).image ≡ c.image
-  pub cycle-image : (k : ℕ) (c : Chip) (f : Frame) (y : Cycle) → carried_by c f ≡ Some y → (after k c f).image ≡ effect (shape c) y c.image
+  pub idle_image : (k : ℕ) (c : Chip) (f : Frame) → carried_by c f ≡ None → (after k c f).image ≡ c.image
+  pub cycle_image : (k : ℕ) (c : Chip) (f : Frame) (y : Cycle) → carried_by c f ≡ Some y → (after k c f).image ≡ effect (shape c) y c.image
   -- which leaves this at each place
   pub leaves : (k : ℕ) (c : Chip) → Sound c → (f : Frame) (y : Cycle) → carried_by c f ≡ Some y → Leaves c y (after k c f).image
   -- in pages of 64 bytes
@@ -153,13 +154,13 @@ pub record MachineLaws : Type 0 where
   -- the latch is set only by write enable, and cleared only by write disable and by each cycle carried out
   pub latch : (k : ℕ) (c : Chip) (f : Frame) → (hears c f ≢ enable) → (hears c f ≢ disable) → carried_by c f ≡ None
       → (after k c f).latch ≡ c.latch
-  pub latch-set : (k : ℕ) (c : Chip) (f : Frame) → hears c f ≡ enable → (after k c f).latch ≡ true
+  pub latch_set : (k : ℕ) (c : Chip) (f : Frame) → hears c f ≡ enable → (after k c f).latch ≡ true
   pub latch_cleared : (k : ℕ) (c : Chip) (f : Frame) → hears c f ≡ disable → (after k c f).latch ≡ false
-  pub latch-spent : (k : ℕ) (c : Chip) (f : Frame) (y : Cycle) → carried_by c f ≡ Some y → (after k c f).latch ≡ false
+  pub latch_spent : (k : ℕ) (c : Chip) (f : Frame) (y : Cycle) → carried_by c f ≡ Some y → (after k c f).latch ≡ false
   -- a cycle that is heard is carried out if the latch is set and it has what it needs
   pub carries : (c : Chip) → Sound c → (f : Frame) (y : Cycle) → hears c f ≡ cycle y → c.latch ≡ true → Needs c y → carried_by c f ≡ Some y
   -- and only then
-  pub needs-latch : (c : Chip) (f : Frame) (y : Cycle) → carried_by c f ≡ Some y → c.latch ≡ true
+  pub needs_latch : (c : Chip) (f : Frame) (y : Cycle) → carried_by c f ≡ Some y → c.latch ≡ true
   pub needs : (c : Chip) → Sound c → (f : Frame) (y : Cycle) → carried_by c f ≡ Some y → Needs c y
   -- the busy count: a status read lowers it by one, a cycle carried out sets it, and nothing else alters it
   pub counts : (k : ℕ) (c : Chip) (f : Frame) → hears c f ≡ status → (after k c f).busy ≡ c.busy - 1
@@ -175,8 +176,11 @@ pub record MachineLaws : Type 0 where
   -- read status gives the status byte, and each byte back is the same
   pub shows : (w : ℕ) (c : Chip) → Sound c → (f : Frame) (i : ℕ) → hears c f ≡ status → i < f.wanted
       → Shows c (slice_index (answer w c f) i) × (slice_index (answer w c f) i ≡ slice_index (answer w c f) 0)
+  -- while busy bit 1 may be 0 and may be 1, beside bit 0 that is 1
+  pub either : (c : Chip) (f : Frame) → hears c f ≡ status → 0 < c.busy
+      → (answer 0 c f ≡ replicate f.wanted (c.status + 1)) × (answer 2 c f ≡ replicate f.wanted (c.status + 3))
   -- an idle chip identifies itself by the maker's byte, the memory type and its capacity byte, as many of them as are wanted
   pub identifies : (w : ℕ) (c : Chip) (n : ℕ) → c.busy ≡ 0 → n ≤ 3
       → answer w c (frame (0x9F ∷ []) n) ≡ take n (0x20 ∷ 0xDA ∷ c.capacity ∷ [])
   -- to want more than these three is another shape
-  pub identifies-three : (c : Chip) (n : ℕ) → 3 < n → hears c (frame (0x9F ∷ []) n) ≡ unknown
+  pub identifies_three : (c : Chip) (n : ℕ) → 3 < n → hears c (frame (0x9F ∷ []) n) ≡ unknown

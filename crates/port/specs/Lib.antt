@@ -1,6 +1,7 @@
 pub mod Instructions
 pub mod Operations
 pub mod Chip
+pub mod Asks
 pub mod Machine
 pub mod Acts
 pub mod Rows

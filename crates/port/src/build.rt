@@ -1,16 +1,17 @@
 // Frames put together by the instruction table.
-ghost use Rattle.std.specs.Prelude.{◌≡◌, ◌+◌, ◌≤◌, ◌++◌, length, drop, is_ok, if◌then◌else◌, Ok, Err, nat_le};
+ghost use Rattle.std.specs.Prelude.{◌≡◌, ◌+◌, ◌≤◌, ◌++◌, length, drop, is_some, if◌then◌else◌, Some, None, nat_le};
 ghost use Rattle.memory.specs.Page.{put};
-ghost use Rattle.port.specs.declared.fault.PortFault.TheVariants.{TooLong};
 ghost use Rattle.port.specs.Build.{Understood, built, carried_by, headed, high_first, listed, place};
 
-use crate::fault::{PortFault, check_length};
 use crate::instruction::{Instruction, Operation, TABLE};
 use memory::bytes::fill;
 use memory::model::PAGE_BYTES;
+use memory::range::is_inside;
 
 // The longest frame that is built, a page cycle's: a code, three bytes of address and a page of data. Every port carries it.
 pub const LONGEST_BUILT: usize = 4 + PAGE_BYTES;
+
+const _: () = prove!(LONGEST_BUILT == 68);
 
 // The table stands in the order of the operations.
 fn place(operation: Operation) -> usize
@@ -58,21 +59,18 @@ fn carried<'a>(has_data: bool, data: &'a [u8]) -> &'a [u8]
     if has_data { data } else { &[] }
 }
 
-// Writes a frame into the buffer, and says how long it is. One that has no room is refused, and the buffer stays.
-pub fn build(
-    operation: Operation,
-    address: usize,
-    data: &[u8],
-    into: &mut [u8],
-) -> Result<usize, PortFault>
-    ensures result { result ≡ (if nat_le (length (built operation address «data».now)) (length into.old) then Ok (length (built operation address «data».now)) else Err (TooLong (length into.old))) }
-    ensures bytes { into.new ≡ (if is_ok result then put 0 (built operation address «data».now) into.old else into.old) }
+// Writes a frame into the buffer, and says how long it is. Where the buffer is too short there is none, and it stays.
+pub fn build(operation: Operation, address: usize, data: &[u8], into: &mut [u8]) -> Option<usize>
+    ensures result { result ≡ (if nat_le (length (built operation address «data».now)) (length into.old) then Some (length (built operation address «data».now)) else None) }
+    ensures bytes { into.new ≡ (if is_some result then put 0 (built operation address «data».now) into.old else into.old) }
     ensures understood { Understood }
 {
     let row = Instruction::of(operation);
     let head = row.head();
     let sent = carried(row.has_data, data);
-    check_length(into.len(), head, sent.len())?;
+    if !is_inside(into.len(), head, sent.len()) {
+        return None;
+    }
     lay_out(row, address, sent, into);
-    Ok(head + sent.len())
+    Some(head + sent.len())
 }

@@ -16,9 +16,9 @@ pub enum Side {
 // It means the port on the chosen side. The other one is never spoken to.
 #[derive(Drop)]
 pub struct Bus<L, R> {
-    pub first: L,
-    pub second: R,
-    pub chosen: Side,
+    pub(crate) first: L,
+    pub(crate) second: R,
+    pub(crate) chosen: Side,
 }
 
 impl<L, R> Bus<L, R> {

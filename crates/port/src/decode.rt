@@ -1,7 +1,7 @@
 // Frames taken apart.
-ghost use Rattle.std.specs.Prelude.{◌≡◌, ◌+◌, ◌*◌};
+ghost use Rattle.std.specs.Prelude.{◌≡◌, ◌+◌, ◌*◌, ◌⊎◌};
 ghost use Rattle.port.specs.Instructions.{lookup, table};
-ghost use Rattle.port.specs.Machine.{Plain, Within, heard, meant, ordered, said, shaped_by};
+ghost use Rattle.port.specs.Asks.{Plain, Within, heard, meant, ordered, said, shaped_by};
 
 use crate::instruction::{Instruction, Operation};
 use crate::order::Order;
@@ -83,11 +83,12 @@ pub fn decode<'a>(sent: &'a [u8], wanted: usize) -> Order<'a>
     }
 }
 
-// The order that a chip of so many bytes takes: only read status while it is busy, and none beyond its end.
+// The order that a chip of so many bytes takes: only read status while it is busy, and none beyond its end. One that it takes is left
+// as it is.
 pub fn hear<'a>(busy: usize, size: usize, order: Order<'a>) -> Order<'a>
     ensures same { said result ≡ heard busy size (said order.entry) }
     ensures within { Within size (said result) }
-    ensures plain { Plain order.entry → Plain result }
+    ensures kept { (result ≡ order.entry) ⊎ (result ≡ Order.Unknown) }
 {
     if busy > 0 {
         return match order {

@@ -1,8 +1,9 @@
 // Why a port refuses. specs/Rows.antt gives each case its layer, number and values.
 ghost use Rattle.std.specs.Prelude.{◌≡◌, ◌+◌, if◌then◌else◌, Ok, Err, nat_le};
 ghost use Rattle.port.specs.declared.fault.PortFault.TheVariants.{TooLong};
+ghost use Rattle.memory.specs.Image as of_image;
 ghost use Rattle.port.specs.Bench.{imaging};
-ghost use Rattle.port.specs.Rows.{making_row, row};
+ghost use Rattle.port.specs.Rows.{making_row, row, which};
 
 use memory::image::ImageFault;
 use memory::range::is_inside;
@@ -10,8 +11,7 @@ use memory::report::{Cause, Layer, Report, Reported};
 
 #[derive(Clone, Copy, PartialEq, Eq, Debug)]
 pub enum PortFault {
-    // the bytes sent and the bytes wanted back are together more than the longest frame, or the bytes of a frame that is built more
-    // than its buffer: what there is room for
+    // the bytes sent and the bytes wanted back are together more than the longest frame, which is this long
     TooLong(usize),
 }
 
@@ -48,9 +48,9 @@ pub enum ChipMaking {
     Busy = 4,
 }
 
-// An image that cannot be made cannot be a chip's.
+// An image that cannot be made cannot be a chip's: it is told with the same value.
 impl From<ImageFault> for ChipMaking {
-    ghost from_gives = { λ old new. new ≡ imaging old };
+    ghost from_gives = { λ old new. (new ≡ imaging old) × (which new ≡ of_image.which old) };
 
     fn from(fault: ImageFault) -> ChipMaking {
         match fault {

@@ -5,7 +5,7 @@ ghost use Rattle.port.specs.Operations.{operation_of};
 
 use memory::kind::Kind;
 
-// The five kinds of cycle stand among the others, and not as one case with a `Kind`: an operation is so the index of its row in
+// The five kinds of cycle stand among the others, and not as one case with a `Kind`, so that an operation is the index of its row in
 // `TABLE`.
 #[derive(Clone, Copy, PartialEq, Eq, Debug)]
 pub enum Operation {

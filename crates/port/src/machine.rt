@@ -2,7 +2,8 @@
 ghost use Rattle.std.specs.Prelude.{◌≡◌, ℕ, true, List, length};
 ghost use Rattle.memory.specs.Cycle.{cycle_of};
 ghost use Rattle.memory.specs.Image.{bytes_of};
-ghost use Rattle.port.specs.Machine.{Within, act, identify, reply, said, shown, takes};
+ghost use Rattle.port.specs.Asks.{Within, identify, said};
+ghost use Rattle.port.specs.Machine.{act, reply, shown, takes};
 ghost use Rattle.port.specs.Bench.{chip_of};
 
 use crate::bench::BenchChip;
@@ -29,7 +30,7 @@ impl BenchChip {
         }
     }
 
-    // The three bytes of the identification, as many of them as are wanted. For more, which no frame has that `decode` takes, FFh.
+    // The first bytes of the identification, as many as are wanted. `decode` takes no frame that wants more than three; then FFh.
     fn identify(&self, back: &mut [u8])
         ensures { back.new ≡ reply 0 (chip_of self.now) identify (length back.old) }
     {

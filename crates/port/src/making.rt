@@ -4,9 +4,10 @@ ghost use Rattle.port.specs.Bench.{chip_of, fresh, unmade};
 
 use crate::bench::BenchChip;
 use crate::fault::ChipMaking;
-use memory::image::{Image, Unmade};
+use memory::image::Image;
 use memory::model::Model;
 use memory::protection::Status;
+use memory::unmade::Unmade;
 
 const MOST_BUSY: usize = 4096;
 

@@ -12,7 +12,6 @@ use part::part::Part;
 use planner::plan::plan;
 use port::bench::BenchChip;
 use port::build::build;
-use port::fault::PortFault;
 use port::instruction::Operation;
 use port::port::Port;
 use trials::chip::ChipFault;
@@ -34,37 +33,37 @@ fn count_blank(bytes: &[u8]) -> usize {
     bytes.iter().filter(|b| **b == 0xFF).count()
 }
 
-// Sends the frame of an operation that has no data.
+// Sends the frame of an operation that has no data, if it is not too long.
 fn send_frame(
     chip: &mut BenchChip,
     operation: Operation,
     address: usize,
     back: &mut [u8],
-) -> Result<(), PortFault> {
+) -> Option<()> {
     let mut frame = [0u8; HEAD];
     let n = build(operation, address, &[], &mut frame)?;
-    chip.exchange(&frame[..n], back)
+    chip.exchange(&frame[..n], back).ok()
 }
 
 // How many bytes of one frame's worth are FFh.
-fn read_chunk(chip: &mut BenchChip, start: usize) -> Result<usize, PortFault> {
+fn read_chunk(chip: &mut BenchChip, start: usize) -> Option<usize> {
     let mut bytes = [0u8; CHUNK];
     let back = &mut bytes[0..BYTES.saturating_sub(start).min(CHUNK)];
     send_frame(chip, Operation::Read, start, back)?;
-    Ok(count_blank(back))
+    Some(count_blank(back))
 }
 
 // How many of the chip's bytes are FFh.
-fn sweep(chip: &mut BenchChip) -> Result<usize, PortFault> {
+fn sweep(chip: &mut BenchChip) -> Option<usize> {
     let mut blank: usize = 0;
     // by the addresses, since the frames carry them
     for start in (0..BYTES).step_by(CHUNK) {
         blank = blank.saturating_add(read_chunk(chip, start)?);
     }
-    Ok(blank)
+    Some(blank)
 }
 
-fn erased(chip: &mut BenchChip) -> Result<usize, PortFault> {
+fn erased(chip: &mut BenchChip) -> Option<usize> {
     send_frame(chip, Operation::WriteEnable, 0, &mut [])?;
     send_frame(chip, Operation::BulkErase, 0, &mut [])?;
     sweep(chip)
@@ -89,7 +88,7 @@ fn main(rt: HostRuntime) -> anyhow::Result<()> {
     // 00h everywhere, and no blank chip, so that the erase is seen
     let image = vec![in rt.alloc(); 0; BYTES]?;
     let mut chip = BenchChip::new(CAPACITY, image, OPEN, 0).map_err(ChipFault::from)?;
-    let blank = erased(&mut chip).ok().context("a frame was too long")?;
+    let blank = erased(&mut chip).context("a frame was too long")?;
     let frames = BYTES.div_ceil(CHUNK);
     println!(rt; "{blank} bytes are FFh, read in {frames} frames")?;
     let mut bytes = vec![in rt.alloc(); 0; BYTES]?;

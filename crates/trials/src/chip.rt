@@ -5,8 +5,8 @@ ghost use Rattle.memory.specs.Shape.{size};
 ghost use Rattle.port.specs.Bench.{chip_of, fresh, unmade};
 ghost use Rattle.trials.specs.declared.chip.ChipFault.TheVariants as fault;
 
-use memory::image::Unmade;
 use memory::model::Model;
+use memory::unmade::Unmade;
 use port::bench::BenchChip;
 use port::fault::ChipMaking;
 use std::alloc::{AllocError, Global};

@@ -2,7 +2,7 @@
 ghost use Rattle.std.specs.Prelude.{◌≡◌, Some, None, MatchResult, vec_len};
 ghost use Rattle.part.specs.Plain.{fresh, plainly, unmade};
 
-use memory::image::Unmade;
+use memory::unmade::Unmade;
 use part::fault::PlainMaking;
 use part::plain::PlainImage;
 use thiserror::Error;

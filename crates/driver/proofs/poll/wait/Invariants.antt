@@ -1,5 +1,5 @@
 use Rattle.std.proofs.Common.{◌≡◌, ◌≤◌, replicate}
-use Rattle.driver.specs.Frames.{status_frame}
+use Rattle.port.specs.Build.{status_frame}
 use Rattle.driver.specs.Driving.{lowered}
 use Rattle.driver.proofs.poll.wait.Given as goal
 

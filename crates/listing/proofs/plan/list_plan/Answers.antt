@@ -2,7 +2,7 @@ use Rattle.std.proofs.Common.{◌≡◌, ◌≤◌, length, sym, ap, ◌∙◌, 
 use Rattle.least.specs.Steps.{cycles_of}
 use Rattle.listing.specs.PlanFault.{first_unlisted}
 use Rattle.listing.specs.PlanFrames.{plan_text, kept}
-use Rattle.listing.proofs.Laying.{laid_start, over-fits}
+use Rattle.listing.proofs.Laying.{put_start, over-fits}
 use Rattle.listing.proofs.Played.{has_effect}
 use Rattle.listing.proofs.Sendings.{plan-reads}
 use Rattle.listing.proofs.Sheets.{sheet_text}
@@ -30,7 +30,7 @@ returns-clause-buffer c =
     let h : length (plan_text d s) ≤ length l = omega arith in
     let t = sheet_text c.new-sheet.ensures.place c.new-sheet.ensures.buffer c.put_steps.ensures in
     let n = c.put_steps.ensures.same ∙ c.new-sheet.ensures.same in
-    let b : c.put_steps.new.sheet.into.now ≡ kept (first_unlisted d s) (plan_text d s) l = t.1 ∙ laid_start (plan_text d s) l ∙ sym (over-fits (plan_text d s) l h) ∙ ap (λ o. kept o (plan_text d s) l) e in
+    let b : c.put_steps.new.sheet.into.now ≡ kept (first_unlisted d s) (plan_text d s) l = t.1 ∙ put_start (plan_text d s) l ∙ sym (over-fits (plan_text d s) l h) ∙ ap (λ o. kept o (plan_text d s) l) e in
     search (rules, sym n, b)
 
 pub returns-clause-reads : goal.returns-clause-reads

@@ -7,13 +7,13 @@ use Rattle.port.proofs.build.build.Goals as goal
 pub lay_out-requires-clause-address : goal.lay_out-requires-clause-address
 lay_out-requires-clause-address c = let a = address_most c.args.operation c.of-row.result c.of-row.ensures in omega arith
 
-pub returns-in_err-check_length-clause-result : goal.returns-in_err-check_length-clause-result
-returns-in_err-check_length-clause-result c =
+pub returns-then-not-is_inside-clause-result : goal.returns-then-not-is_inside-clause-result
+returns-then-not-is_inside-clause-result c =
     let l = length-built c.args.operation c.of-row.result c.args.address c.args.data.now c.of-row.ensures in
     let n = ap length c.carried-sent.ensures in grind (arith, nat_tests)
 
-pub returns-in_err-check_length-clause-understood : goal.returns-in_err-check_length-clause-understood
-returns-in_err-check_length-clause-understood c = understood
+pub returns-then-not-is_inside-clause-understood : goal.returns-then-not-is_inside-clause-understood
+returns-then-not-is_inside-clause-understood c = understood
 
 pub returns : goal.returns
 returns c =

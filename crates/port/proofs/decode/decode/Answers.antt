@@ -1,7 +1,7 @@
 use Rattle.std.proofs.Common.{◌-◌, ◌≤◌, length, get_or, drop, sym, ◌∙◌, ap₂, arith, length-drop, rules}
 use Rattle.std.proofs.lemmas.List.{take_rest}
 use Rattle.port.specs.Instructions.{table, lookup}
-use Rattle.port.specs.Machine.{shaped_by}
+use Rattle.port.specs.Asks.{shaped_by}
 use Rattle.port.proofs.Frames.{ordered_is, address_long, data_long}
 use Rattle.port.proofs.decode.decode.Goals as goal
 

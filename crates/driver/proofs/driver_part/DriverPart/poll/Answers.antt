@@ -1,7 +1,7 @@
 use Rattle.std.proofs.Common.{◌≡◌, not, ◌&&◌, eqb, [], ◌∷◌, sym, refl, ap, ◌∙◌}
+use Rattle.port.specs.Build.{status_frame}
 use Rattle.port.specs.Chip.{Chip}
 use Rattle.part.specs.declared.outline.Outline.{Outline}
-use Rattle.driver.specs.Frames.{status_frame}
 use Rattle.driver.proofs.Driven.{drives_poll}
 use Rattle.driver.proofs.driver_part.DriverPart.poll.Goals as goal
 use Rattle.driver.proofs.driver_part.DriverPart.poll.Goals.{then-self, else-self}
