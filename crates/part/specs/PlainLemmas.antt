@@ -1,5 +1,5 @@
--- What the laws of a part ask of one that is made of a status byte: one entry for each sector, runs one after the other, and what a
--- run tells. These are lemmas; they stand here since the laws of each part are proved in src/.
+-- For the laws of parts: a status byte makes one mark for each sector, a run comes after another, and a run whose cycles all leave the
+-- same number of polls due tells its events. These are lemmas; they stand here since the laws of each part are proved in src/.
 use Rattle.std.specs.Prelude.{◌≡◌, ℕ, ◌≤◌, List, ◌++◌, length}
 use Rattle.std.proofs.Common.{sym, subst}
 use Rattle.std.proofs.lemmas.List.FromFn.{length-map-range_with_len}
