@@ -5,7 +5,8 @@ use Rattle.std.proofs.lemmas.Bool.{both_ways}
 use Rattle.memory.specs.Shape.{size}
 use Rattle.memory.specs.Cycle.{Cycle, Goes}
 use Rattle.part.specs.declared.part.Part.{Ghosts}
-use Rattle.part.specs.Meaning.{Meaning, Event, protected_at}
+use Rattle.part.specs.Meaning.{Meaning, Event, none as unmoved, protected_at}
+use Rattle.part.specs.PlainLemmas.{played-++}
 use Rattle.fence.specs.declared.fence.Fence.{Fence}
 use Rattle.least.specs.declared.step.Step.{Step}
 use Rattle.least.specs.Steps.{cycles_of, step_cycle, steps_of, data_of}
@@ -61,10 +62,10 @@ module _ {P : Type 0} (part : Ghosts P)
     fence = fencing part
 
     stay : (f : Fence P) → t f f []
-    stay f = (refl, stays f.part)
+    stay f = (refl, stays f.part, unmoved)
 
     join : (x y z : Fence P) (k l : List Event) → t x y k → t y z l → t x z (k ++ l)
-    join x y z k l p q = (q.0 ∙ p.0, joins x.part y.part z.part k l p.1 q.1)
+    join x y z k l p q = (q.0 ∙ p.0, joins x.part y.part z.part k l p.1 q.1, played-++ p.2 q.2)
 
     abbrev steps : ℕ
     steps = length b.steps

@@ -6,6 +6,7 @@ use Rattle.part.specs.declared.part.Part.{Ghosts}
 use Rattle.part.specs.Meaning.{Meaning, Event, asked}
 use Rattle.fence.specs.declared.fence.Fence.{Fence}
 use Rattle.fence.specs.Closed.{fenced}
+use Rattle.fence.specs.Fenced.{FenceTrace}
 use Rattle.writing.specs.Wrote.{Buffers, Left}
 use Rattle.calls.specs.declared.call.Refusal.TheVariants.{Part, Write}
 use Rattle.calls.specs.declared.call.Answer.{Answer}
@@ -29,9 +30,9 @@ module _ {P : Type 0} (part : Ghosts P) where
   abbrev pub meant : Fence P → Meaning
   meant f = fenced (part.meaning f.part) f.closed
 
-  -- what happened to the part below it, the closed sectors staying
+  -- what happened to it: the part below it did the same, and the closed sectors stay
   abbrev pub Traced : Fence P → Fence P → List Event → Type 0
-  Traced f g events = (g.closed ≡ f.closed) × part.trace f.part g.part events
+  Traced = FenceTrace part
 
   -- a fence over the part, as a part
   abbrev pub fencing : Ghosts (Fence P)

@@ -1,4 +1,5 @@
 pub mod Hearing
+pub mod Leading
 pub mod Reading
 pub mod Sending
 pub mod Driven

@@ -49,32 +49,32 @@ reads_more room a n m r h e =
 pub reads-done : (room a n : ℕ) → n ≡ 0 → reads room a n ≡ []
 reads-done room a n e = reads_none n room a n e
 
--- they alter nothing, carry out nothing, and none is a status read
-abbrev Quiet : Chip → List Frame → Type 0
-Quiet c fs = Carries c fs c []
+-- they leave the chip as it is, and carry out nothing
+abbrev Still : Chip → List Frame → Type 0
+Still c fs = Carries c fs c []
 
 -- what is left of n bytes after one frame
 left_over : (P : List Frame → Type 0) (t room a n : ℕ) → P [] → (room ≤ n → P (reads_in t room (a + room) (n - room))) → P (reads_in t room (a + room) (n - room))
 left_over P t room a n z f =
     ⊎_elim (λ l. subst P (sym (reads_none t room (a + room) (n - room) (omega arith))) z) f (cases_lt n room)
 
-quiet_first : (c : Chip) (a m : ℕ) (fs : List Frame) → a < 16777216 → Quiet c fs → Quiet c (read_frame a m ∷ fs)
-quiet_first c a m fs l q =
+still_first : (c : Chip) (a m : ℕ) (fs : List Frame) → a < 16777216 → Still c fs → Still c (read_frame a m ∷ fs)
+still_first c a m fs l q =
     let P : Chip → Type 0 = λ x. Carries x fs c [] in
     let Q : List Cycle → Type 0 = λ x. Carries c (read_frame a m ∷ fs) c (x ++ []) in
     subst Q (carries-read c a m l) (step 0 (subst P (sym (after_read 0 c a m l)) q))
 
-quiet_in : (t room a n : ℕ) (c : Chip) → a + n ≤ 16777216 → Quiet c (reads_in t room a n)
+still_in : (t room a n : ℕ) (c : Chip) → a + n ≤ 16777216 → Still c (reads_in t room a n)
 unfolding reads_in
-quiet_in zero room a n c h = none
-quiet_in (suc t) room a n c h = ⊎_elim
-    (λ e. subst (Quiet c) (sym (reads_none (suc t) room a n e)) none)
-    (λ d. subst (Quiet c) (sym (some t room a n d))
-    (quiet_first c a (min room n) _ (omega arith) (left_over (Quiet c) t room a n none (λ l. quiet_in t room (a + room) (n - room) c (omega arith)))))
+still_in zero room a n c h = none
+still_in (suc t) room a n c h = ⊎_elim
+    (λ e. subst (Still c) (sym (reads_none (suc t) room a n e)) none)
+    (λ d. subst (Still c) (sym (some t room a n d))
+    (still_first c a (min room n) _ (omega arith) (left_over (Still c) t room a n none (λ l. still_in t room (a + room) (n - room) c (omega arith)))))
     (cases_eq n 0)
 
 pub reads_carry : (room a n : ℕ) (c : Chip) → a + n ≤ 16777216 → Carries c (reads room a n) c []
-reads_carry room a n c h = quiet_in n room a n c h
+reads_carry room a n c h = still_in n room a n c h
 
 harmless_in : (t room a n : ℕ) (c : Chip) → a + n ≤ 16777216 → Harmless c (reads_in t room a n)
 unfolding reads_in

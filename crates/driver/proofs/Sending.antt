@@ -22,7 +22,7 @@ use Rattle.part.specs.declared.outline.Outline.{Outline}
 use Rattle.part.specs.Outline.{outlined, guarding}
 use Rattle.part.specs.Verdict.{inside, takes_length, presets}
 use Rattle.part.proofs.Guards.{guard_at, free-guards}
-use Rattle.driver.specs.Frames.{Sendable, largest, enable_frame, cycle_frame, looks}
+use Rattle.driver.specs.Frames.{Sendable, largest_shape, enable_frame, cycle_frame, looks}
 use Rattle.port.specs.Operations.{operation_of}
 use Rattle.driver.specs.Carries.{Carries, Harmless, none, step, status_reads, asks_status, carried_out}
 use Rattle.driver.specs.Driving.{Intact}
@@ -39,11 +39,11 @@ sendable o of_kind.Preset a n i f = (inside_most o a i, f)
 sendable o of_kind.SectorErase a n i f = (inside_most o a i, refl)
 sendable o of_kind.BulkErase a n i f = (refl, refl)
 
-pub length-cycle : (kind : Kind) (a : ℕ) (sent : List ℕ) → takes_length largest kind (length sent) ≡ true → length (built (operation_of kind) a sent) ≤ 68
+pub length-cycle : (kind : Kind) (a : ℕ) (sent : List ℕ) → takes_length largest_shape kind (length sent) ≡ true → length (built (operation_of kind) a sent) ≤ 68
 unfolding table listed built
-length-cycle of_kind.Program a sent f = let m = (fits_page_facts largest sent f).1 in omega arith
-length-cycle of_kind.Alter a sent f = let m = (fits_page_facts largest sent f).1 in omega arith
-length-cycle of_kind.Preset a sent f = let m = (fits_page_facts largest sent f).1 in omega arith
+length-cycle of_kind.Program a sent f = let m = (fits_page_facts largest_shape sent f).1 in omega arith
+length-cycle of_kind.Alter a sent f = let m = (fits_page_facts largest_shape sent f).1 in omega arith
+length-cycle of_kind.Preset a sent f = let m = (fits_page_facts largest_shape sent f).1 in omega arith
 length-cycle of_kind.SectorErase a sent f = lit≤ tt
 length-cycle of_kind.BulkErase a sent f = lit≤ tt
 
@@ -60,9 +60,9 @@ after-enable k c =
 -- the frame of the cycle
 cycle-ordered : (kind : Kind) (a : ℕ) (sent : List ℕ) → Sendable kind a (length sent) → ordered (built (operation_of kind) a sent) 0 ≡ cycle (cycle_of kind a sent)
 unfolding table listed built
-cycle-ordered of_kind.Program a sent s = understood Program a 0 sent (ltb-true _ _ s.0) (λ _. (fits_page_facts largest sent s.1).0)
-cycle-ordered of_kind.Alter a sent s = understood Alter a 0 sent (ltb-true _ _ s.0) (λ _. (fits_page_facts largest sent s.1).0)
-cycle-ordered of_kind.Preset a sent s = understood Preset a 0 sent (ltb-true _ _ s.0) (λ _. (fits_page_facts largest sent s.1).0)
+cycle-ordered of_kind.Program a sent s = understood Program a 0 sent (ltb-true _ _ s.0) (λ _. (fits_page_facts largest_shape sent s.1).0)
+cycle-ordered of_kind.Alter a sent s = understood Alter a 0 sent (ltb-true _ _ s.0) (λ _. (fits_page_facts largest_shape sent s.1).0)
+cycle-ordered of_kind.Preset a sent s = understood Preset a 0 sent (ltb-true _ _ s.0) (λ _. (fits_page_facts largest_shape sent s.1).0)
 cycle-ordered of_kind.SectorErase a sent s = understood SectorErase a 0 sent (ltb-true _ _ s.0) (λ e. absurd (Rattle.std.proofs.lemmas.Bool.false≢true e))
 cycle-ordered of_kind.BulkErase a sent s = refl
 
@@ -117,21 +117,21 @@ takes_in o c of_kind.BulkErase a sent i p t =
     ap (λ st. nat_eq (bit_and st 0x5C) 0) i.status ∙ sym (free-guards o.status.bits o.geometry.sectors o.status.byte o.geometry.some) ∙ p
 
 -- looking at the page alters nothing
-pub looks_carry : (room : ℕ) (kind : Kind) (a : ℕ) (c : Chip) → inside largest kind a ≡ true → Carries c (looks room kind a) c []
+pub looks_carry : (room : ℕ) (kind : Kind) (a : ℕ) (c : Chip) → inside largest_shape kind a ≡ true → Carries c (looks room kind a) c []
 looks_carry room of_kind.Program a c i = none
 looks_carry room of_kind.Alter a c i = none
 looks_carry room of_kind.Preset a c i = let l = ltb-true _ _ i in reads_carry room (a / 64 * 64) 64 c (omega arith)
 looks_carry room of_kind.SectorErase a c i = none
 looks_carry room of_kind.BulkErase a c i = none
 
-pub looks-harmless : (room : ℕ) (kind : Kind) (a : ℕ) (c : Chip) → inside largest kind a ≡ true → Harmless c (looks room kind a)
+pub looks-harmless : (room : ℕ) (kind : Kind) (a : ℕ) (c : Chip) → inside largest_shape kind a ≡ true → Harmless c (looks room kind a)
 looks-harmless room of_kind.Program a c i = tt
 looks-harmless room of_kind.Alter a c i = tt
 looks-harmless room of_kind.Preset a c i = let l = ltb-true _ _ i in reads-harmless room (a / 64 * 64) 64 c (omega arith)
 looks-harmless room of_kind.SectorErase a c i = tt
 looks-harmless room of_kind.BulkErase a c i = tt
 
-pub looks_no_status : (room : ℕ) (kind : Kind) (a : ℕ) → inside largest kind a ≡ true → status_reads (looks room kind a) ≡ 0
+pub looks_no_status : (room : ℕ) (kind : Kind) (a : ℕ) → inside largest_shape kind a ≡ true → status_reads (looks room kind a) ≡ 0
 looks_no_status room of_kind.Program a i = refl
 looks_no_status room of_kind.Alter a i = refl
 looks_no_status room of_kind.Preset a i = let l = ltb-true _ _ i in reads_no_status room (a / 64 * 64) 64 (omega arith)

@@ -2,18 +2,13 @@
 use Rattle.std.specs.Prelude.{◌≡◌, ℕ, ◌+◌, cond, List, [], ◌∷◌, ◌++◌}
 use Rattle.memory.specs.Cycle.{Cycle}
 use Rattle.port.specs.Chip.{Chip}
-use Rattle.port.specs.Asks.{Ask, enable, disable, status, identify, read, cycle, unknown, ordered}
+use Rattle.port.specs.Asks.{Ask, status, cycle, ordered}
 use Rattle.port.specs.Machine.{Frame, hears, takes, after}
 
 -- the cycle that the chip carries out where it hears this, if any
 abbrev pub carried_out : Chip → Ask → List Cycle
-carried_out c enable = []
-carried_out c disable = []
-carried_out c status = []
-carried_out c identify = []
-carried_out c (read address) = []
 carried_out c (cycle y) = cond (takes c y) (y ∷ []) []
-carried_out c unknown = []
+carried_out c ask = []
 
 -- each of the frames leaves the chip as it is
 abbrev pub Harmless : Chip → List Frame → Type 0
@@ -27,14 +22,10 @@ pub data Carries : Chip → List Frame → Chip → List Cycle → Type 0 where
   step : {c d : Chip} {f : Frame} {fs : List Frame} {ys : List Cycle} (k : ℕ)
       → Carries (after k c f) fs d ys → Carries c (f ∷ fs) d (carried_out c (hears c f) ++ ys)
 
+-- 1 for a status read, and 0 for all else
 abbrev pub asks_status : Ask → ℕ
-asks_status enable = 0
-asks_status disable = 0
 asks_status status = 1
-asks_status identify = 0
-asks_status (read address) = 0
-asks_status (cycle y) = 0
-asks_status unknown = 0
+asks_status ask = 0
 
 -- how many of the frames are status reads
 abbrev pub status_reads : List Frame → ℕ

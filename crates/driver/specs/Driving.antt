@@ -3,7 +3,7 @@ use Rattle.std.specs.Prelude.{◌≡◌, ℕ, ◌+◌, ◌-◌, false, cond, Lis
 use Rattle.port.specs.Chip.{Chip, shape}
 use Rattle.port.specs.Machine.{Frame}
 use Rattle.part.specs.declared.outline.Outline.{Outline}
-use Rattle.part.specs.Meaning.{Meaning, Event, asked, carried, polled, cycles, polls}
+use Rattle.part.specs.Meaning.{Meaning, Event, Tells, asked, carried, polled, cycles, polls}
 use Rattle.part.specs.Outline.{outlined, guards}
 use Rattle.driver.specs.Carries.{Carries, Harmless, status_reads}
 
@@ -31,13 +31,14 @@ Quiet (polled ∷ es) = ⊥
 
 -- THE DRIVER'S PROMISE for the frames sent between two states: one status read for each poll, what is remembered of
 -- shape and status stays, and the cycles that the frames carry out are exactly those of the events. Reads, and calls
--- that are refused, send no frame that alters the chip.
+-- that are refused, send no frame that alters the chip. The events lead from what the driver meant to what it means.
 pub record Drives (o : Outline) (c : Chip) (fs : List Frame) (p : Outline) (d : Chip) (es : List Event) : Type 0 where
   pub polls : status_reads fs ≡ polls es
   pub shape : outlined p ≡ outlined o
   pub status : p.status.bits ≡ o.status.bits
   pub carries : Carries c fs d (cycles es)
   pub harmless : Quiet es → (d ≡ c) × Harmless c fs
+  pub tells : Tells (seen o c) es (seen p d)
 
 -- n status reads later
 abbrev pub lowered : ℕ → Chip → Chip

@@ -46,10 +46,10 @@ abbrev pub cycle_frames : ℕ → Option PartFault → Bool → Kind → ℕ →
 cycle_frames room (Some fault) done kind address sent = []
 cycle_frames room None done kind address sent = looks room kind address ++ cond done (enable_frame ∷ cycle_frame kind address sent ∷ []) []
 
--- the largest chip that three bytes of address reach
-abbrev pub largest : Shape
-largest = shaped 128 2048
+-- the shape of the largest chip that three bytes of address reach
+abbrev pub largest_shape : Shape
+largest_shape = shaped 128 2048
 
 -- a cycle that a frame can carry: its address has three bytes, and its data are a page at most
 abbrev pub Sendable : Kind → ℕ → ℕ → Type 0
-Sendable kind address n = (inside largest kind address ≡ true) × (takes_length largest kind n ≡ true)
+Sendable kind address n = (inside largest_shape kind address ≡ true) × (takes_length largest_shape kind n ≡ true)

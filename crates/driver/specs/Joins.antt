@@ -1,19 +1,18 @@
--- What a driver sees is a part that can be, frames joined, and what frames tell. These are lemmas; they stand here since the
--- laws `sound`, `stays`, `joins` and `tells` of a driver as a part are proved in src/, and src/ cites of its own crate the
--- specs alone.
-use Rattle.std.specs.Prelude.{◌≡◌, ℕ, ◌+◌, Bool, true, false, cond, List, [], ◌∷◌, ◌++◌, length, refl}
-use Rattle.std.proofs.Common.{sym, ap, ap₂, subst, ◌∙◌, arith}
+-- What a driver sees is a part that can be, and frames joined. These are lemmas; they stand here since the laws `sound`,
+-- `stays` and `joins` of a driver as a part are proved in src/, and src/ cites of its own crate the specs alone.
+use Rattle.std.specs.Prelude.{◌≡◌, ℕ, ◌+◌, List, [], ◌∷◌, ◌++◌, length, refl}
+use Rattle.std.proofs.Common.{sym, ap, subst, ◌∙◌, arith}
 use Rattle.std.proofs.lemmas.List.{append_assoc}
-use Rattle.memory.specs.Cycle.{Cycle, effect, leads}
-use Rattle.memory.specs.Shape.{Shape, size}
+use Rattle.memory.specs.Cycle.{Cycle}
+use Rattle.memory.specs.Shape.{size}
 use Rattle.port.specs.Chip as of_chip
-use Rattle.port.specs.Chip.{Chip, shape}
-use Rattle.port.specs.Asks.{Ask, enable, disable, status, identify, read, cycle, unknown}
-use Rattle.port.specs.Machine.{Frame, hears, takes, done, act, after}
+use Rattle.port.specs.Chip.{Chip}
+use Rattle.port.specs.Machine.{Frame, hears, after}
 use Rattle.part.specs.declared.outline.Outline.{Outline}
-use Rattle.part.specs.Meaning.{Event, Sound, Tells, asked, carried, polled, cycles}
-use Rattle.part.specs.Outline.{outlined, guards}
-use Rattle.part.specs.PlainLemmas.{length-guards}
+use Rattle.part.specs.Meaning as of_part
+use Rattle.part.specs.Meaning.{Event, Sound, asked, carried, polled}
+use Rattle.part.specs.Outline.{outlined}
+use Rattle.part.specs.PlainLemmas.{length-guards, played-++}
 use Rattle.part.proofs.Events.{cycles-++, polls-++}
 use Rattle.driver.specs.Carries.{Carries, Harmless, none, step, status_reads, carried_out}
 use Rattle.driver.specs.Driving.{Drives, Intact, Quiet, seen}
@@ -62,7 +61,7 @@ both_harmless a b c fs gs p q =
 
 -- nothing was done
 pub drives_none : (o : Outline) (c : Chip) → Drives o c [] o c []
-drives_none o c = record { polls = refl; shape = refl; status = refl; carries = none; harmless = λ _. (refl, tt) }
+drives_none o c = record { polls = refl; shape = refl; status = refl; carries = none; harmless = λ _. (refl, tt); tells = of_part.none }
 
 pub drives-++ : (o p q : Outline) (a b c : Chip) (fs gs : List Frame) (l m : List Event) → Drives o a fs p b l → Drives p b gs q c m → Drives o a (fs ++ gs) q c (l ++ m)
 drives-++ o p q a b c fs gs l m x y =
@@ -77,37 +76,5 @@ drives-++ o p q a b c fs gs l m x y =
       status = y.status ∙ x.status;
       carries = subst P (sym (cycles-++ l m)) (carries-++ x.carries y.carries);
       harmless = λ n. let q = quiet_parts l m n in both_harmless a b c fs gs (x.harmless q.0) (y.harmless q.1);
-    }
-
-taken :
-    (t : Bool) (k : ℕ) (c : Chip) (y : Cycle) (ys : List Cycle) (to : List ℕ)
-    → leads (shape (cond t (done k c (effect (shape c) y c.image)) c)) ys (cond t (done k c (effect (shape c) y c.image)) c).image ≡ to
-    → leads (shape c) (cond t (y ∷ []) [] ++ ys) c.image ≡ to
-taken true k c y ys to p = p
-taken false k c y ys to p = p
-
--- what is heard, and the cycles after it
-heard-leads : (k : ℕ) (c : Chip) (x : Ask) (ys : List Cycle) (to : List ℕ)
-    → leads (shape (act k c x)) ys (act k c x).image ≡ to → leads (shape c) (carried_out c x ++ ys) c.image ≡ to
-heard-leads k c enable ys to p = p
-heard-leads k c disable ys to p = p
-heard-leads k c status ys to p = p
-heard-leads k c identify ys to p = p
-heard-leads k c (read address) ys to p = p
-heard-leads k c (cycle y) ys to p = taken (takes c y) k c y ys to p
-heard-leads k c unknown ys to p = p
-
--- the image that frames leave is the one that the cycles which they carry out lead to
-pub carries-leads : {c d : Chip} {fs : List Frame} {ys : List Cycle} → Carries c fs d ys → leads (shape c) ys c.image ≡ d.image
-carries-leads none = refl
-carries-leads {c} {d} (step {f} {ys = rest} k p) = heard-leads k c (hears c f) rest d.image (carries-leads p)
-
-pub drives-tells : (o p : Outline) (c d : Chip) (fs : List Frame) (es : List Event) → Intact o c → Drives o c fs p d es
-    → Tells (seen o c) es (seen p d)
-drives-tells o p c d fs es i x =
-    let P : Shape → Type 0 = λ s. leads s (cycles es) c.image ≡ d.image in
-    record {
-      shape = x.shape;
-      guarded = ap₂ guards x.status (ap (λ s. s.sectors) x.shape);
-      image = subst P i.shape (carries-leads x.carries);
+      tells = played-++ x.tells y.tells;
     }

@@ -3,7 +3,7 @@ ghost use Rattle.std.specs.Prelude.{◌≡◌, ◌+◌, ◌-◌, ◌*◌, ◌/�
 ghost use Rattle.memory.specs.Page.{blank, page};
 ghost use Rattle.port.specs.Machine.{after};
 ghost use Rattle.part.specs.Verdict.{inside, presets};
-ghost use Rattle.driver.specs.Frames.{Sendable, cycle_frame, enable_frame, largest, looks};
+ghost use Rattle.driver.specs.Frames.{Sendable, cycle_frame, enable_frame, largest_shape, looks};
 
 use crate::ask::ask;
 use crate::read::read;
@@ -16,7 +16,7 @@ use port::port::Port;
 // If the page is as a cycle of this kind needs it: a preset reads its page. A plain image has a function of this name, which
 // looks at its own bytes.
 pub(crate) fn is_clean_for<P: Port>(port: &mut P, kind: Kind, address: usize) -> bool
-    requires { inside largest kind address ≡ true }
+    requires { inside largest_shape kind address ≡ true }
     ensures others { result ≡ presets kind result }
     ensures clean { (P.Port.chip port.old).busy ≡ 0 → address / 64 * 64 + 64 ≤ length (P.Port.chip port.old).image → result ≡ presets kind (blank (page 64 (address / 64) (P.Port.chip port.old).image)) }
     ensures chip { P.Port.chip port.new ≡ P.Port.chip port.old }

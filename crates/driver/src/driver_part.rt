@@ -9,7 +9,7 @@ ghost use Rattle.part.specs.Outline.{guarding, outlined};
 ghost use Rattle.part.specs.Verdict.{idle, read_verdict, refusal, told, verdict};
 ghost use Rattle.driver.specs.Frames.{cycle_frame, cycle_frames, enable_frame, reads};
 ghost use Rattle.driver.specs.Means.{driver_meaning, DriverTrace};
-ghost use Rattle.driver.specs.Joins.{seen-sound, drives_none, drives-++, drives-tells};
+ghost use Rattle.driver.specs.Joins.{seen-sound, drives_none, drives-++};
 
 use crate::cycle::{is_clean_for, send};
 use crate::driver::Driver;
@@ -36,7 +36,7 @@ impl<P: Port> Part for Driver<P> {
       drives-++ a.outline b.outline c.outline _ _ _ p.0 q.0 l m p.2 q.2,
     ) };
 
-    ghost tells = { λ a b l p. drives-tells a.outline b.outline _ _ p.0 l a.intact p.2 };
+    ghost tells = { λ a b l p. p.2.tells };
 
     fn geometry(&self) -> Geometry {
         self.outline.geometry

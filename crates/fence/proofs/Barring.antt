@@ -13,8 +13,15 @@ use Rattle.part.specs.declared.fault.PartFault.TheVariants.{Outside, NoSector, P
 use Rattle.part.specs.Meaning.{Meaning, Sound, protected_at}
 use Rattle.part.proofs.Sounds.{real}
 use Rattle.part.specs.Verdict.{check, inside, takes_length, presets, told_address, form_refusal, idle, verdict_if, protection}
-use Rattle.fence.specs.Closed.{fenced, is_closed, bars, barred_by}
+use Rattle.fence.specs.Closed.{fenced, is_closed, bars}
 use Rattle.fence.proofs.Marks.{either_at, either-closed, either_open, free_open, free-closed}
+
+-- how a cycle that closed sectors bar is refused: the checks before protection come first
+abbrev barred_by : Shape → Bool → Kind → ℕ → ℕ → PartFault
+barred_by m idle kind address n =
+    cond (inside m kind address)
+    (cond (takes_length m kind n) (cond idle (Protected (told_address kind address)) Busy) (PageData n))
+    (Outside address)
 
 -- every page has 64 bytes
 pub takes_length-page : (m : Shape) (kind : Kind) (n : ℕ) → m.bytes ≡ 64 → takes_length m kind n ≡ takes_length (shaped 0 0) kind n

@@ -5,9 +5,8 @@ use Rattle.memory.specs.declared.kind.Kind.TheVariants.{Program, Alter, Preset, 
 use Rattle.memory.specs.Shape.{Shape, sector_at}
 use Rattle.memory.specs.Protection.{free}
 use Rattle.part.specs.declared.fault.PartFault.{PartFault}
-use Rattle.part.specs.declared.fault.PartFault.TheVariants.{Outside, NoSector, PageData, Busy, Protected}
+use Rattle.part.specs.declared.fault.PartFault.TheVariants.{NoSector}
 use Rattle.part.specs.Meaning.{Meaning}
-use Rattle.part.specs.Verdict.{inside, takes_length, told_address}
 
 -- one mark for each sector that a part may have: none is closed
 unfoldable pub none_closed : List Bool
@@ -41,10 +40,3 @@ bars m closed Alter address = is_closed closed (sector_at m address)
 bars m closed Preset address = is_closed closed (sector_at m address)
 bars m closed SectorErase address = is_closed closed (sector_at m address)
 bars m closed BulkErase address = not (free (is_closed closed) m.sectors)
-
--- how such a cycle is refused: the checks before protection come first
-abbrev pub barred_by : Shape → Bool → Kind → ℕ → ℕ → PartFault
-barred_by m idle kind address n =
-    cond (inside m kind address)
-    (cond (takes_length m kind n) (cond idle (Protected (told_address kind address)) Busy) (PageData n))
-    (Outside address)

@@ -1,9 +1,12 @@
 // The fence is a part.
-ghost use Rattle.std.specs.Prelude.{◌≡◌, not};
-ghost use Rattle.std.proofs.Common.{◌∙◌, rules};
+ghost use Rattle.std.specs.Prelude.{◌≡◌, not, refl};
+ghost use Rattle.std.proofs.Common.{◌∙◌};
 ghost use Rattle.memory.specs.Protection.{free};
-ghost use Rattle.fence.specs.Closed.{bars, fenced, is_closed};
-ghost use Rattle.fence.specs.Sound.{fenced-sound, fenced-tells};
+ghost use Rattle.part.specs.Meaning.{none};
+ghost use Rattle.part.specs.PlainLemmas.{played-++};
+ghost use Rattle.fence.specs.Closed.{bars, is_closed};
+ghost use Rattle.fence.specs.Fenced.{fence_meaning, FenceTrace};
+ghost use Rattle.fence.specs.Sound.{fenced-sound};
 
 use crate::fence::Fence;
 use memory::geometry::Geometry;
@@ -34,18 +37,21 @@ impl<P: Part> Fence<P> {
 }
 
 impl<P: Part> Part for Fence<P> {
-    ghost meaning = { λ f. fenced (P.Part.meaning f.part) f.closed };
+    ghost meaning = { fence_meaning P.Part };
 
-    // What happened to the part below; the closed sectors stay.
-    ghost trace = { λ f g l. (g.closed ≡ f.closed) × P.Part.trace f.part g.part l };
+    ghost trace = { FenceTrace P.Part };
 
     ghost sound = { λ s. fenced-sound (P.Part.meaning s.part) (P.Part.sound s.part) s.closed };
 
-    ghost stays = { Prim.search rules };
+    ghost stays = { λ s. (refl, P.Part.stays s.part, none) };
 
-    ghost joins = { λ a b c l m p q. (q.0 ∙ p.0, P.Part.joins _ _ _ _ _ p.1 q.1) };
+    ghost joins = { λ a b c l m p q. (
+      q.0 ∙ p.0,
+      P.Part.joins _ _ _ _ _ p.1 q.1,
+      played-++ p.2 q.2,
+    ) };
 
-    ghost tells = { λ f g l p. fenced-tells _ _ l (P.Part.tells f.part g.part l p.1) f.closed g.closed p.0 };
+    ghost tells = { λ f g l p. p.2 };
 
     fn geometry(&self) -> Geometry {
         self.part.geometry()

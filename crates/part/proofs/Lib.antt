@@ -4,3 +4,4 @@ pub mod Refusals
 pub mod Sounds
 pub mod Guards
 pub mod Playing
+pub mod Telling

@@ -55,7 +55,7 @@ pub trait Part {
     // Carries out a cycle, after which some polls are due, one at least. A refused cycle leaves all as it was. An
     // erase ignores its data, a bulk erase its address too.
     //
-    // One call takes all five kinds, each by kind, address and data side by side: a rule of the project.
+    // One call takes all five kinds, each by kind, address and data side by side (docs/DECISIONS.md).
     fn cycle(&mut self, kind: Kind, address: usize, data: &[u8]) -> Result<(), PartFault>
         ensures result { result ≡ told (verdict (meaning self.old) kind address «data».now) }
         ensures shape { (meaning self.new).shape ≡ (meaning self.old).shape }
@@ -80,6 +80,7 @@ pub trait Part {
     // Events, and then others, lead from the first state to the last.
     ghost joins: { (a b c : Self) (l m : List Event) → trace a b l → trace b c m → trace a c (l ++ m) };
 
-    // The events are what altered it: counts and protected sectors stay, and the image is the one that the cycles among them leave.
+    // The events are what happened to it, each in its turn: a read and a cycle where nothing is due, a cycle accepted and carried out
+    // once, which leaves a poll due at least, a poll that leaves one less due.
     ghost tells: { (a b : Self) (l : List Event) → trace a b l → Tells (meaning a) l (meaning b) };
 }

@@ -1,7 +1,8 @@
 // The plain image is a part.
 ghost use Rattle.std.specs.Prelude.{◌≡◌, refl};
-ghost use Rattle.std.proofs.Common.{◌∙◌, sym};
-ghost use Rattle.part.specs.Plain.{Played, plainly, none};
+ghost use Rattle.std.proofs.Common.{◌∙◌, lit≤, sym};
+ghost use Rattle.part.specs.Meaning.{Played, none};
+ghost use Rattle.part.specs.Plain.{plainly};
 ghost use Rattle.part.specs.PlainLemmas.{length-guards, played-++, played-tells};
 
 use crate::fault::PartFault;
@@ -13,8 +14,8 @@ use memory::kind::Kind;
 impl Part for PlainImage {
     ghost meaning = { plainly };
 
-    // The status byte is kept whole: what is protected shows only some of its bits.
-    ghost trace = { λ a b l. Played (plainly a) l (plainly b) × (a.status ≡ b.status) };
+    // A cycle leaves one poll due. The status byte is kept whole: what is protected shows only some of its bits.
+    ghost trace = { λ a b l. Played (λ k. k ≡ 1) (plainly a) l (plainly b) × (a.status ≡ b.status) };
 
     ghost sound = { λ s.
         let i = s.image in
@@ -32,7 +33,7 @@ impl Part for PlainImage {
 
     ghost joins = { λ a b c l m p q. (played-++ p.0 q.0, p.1 ∙ q.1) };
 
-    ghost tells = { λ a b l p. played-tells p.0 };
+    ghost tells = { λ a b l p. played-tells 1 (lit≤ tt) p.0 };
 
     fn geometry(&self) -> Geometry {
         self.image.geometry

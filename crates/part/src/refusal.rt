@@ -13,7 +13,7 @@ use memory::kind::Kind;
 use memory::model::PAGE_BYTES;
 
 impl Outline {
-    // As the list of a part's protected sectors has it, which is what its meaning holds.
+    // Whether a sector is protected, by the list that a part's meaning holds.
     fn protects(&self, sector: usize) -> bool
         ensures { result ≡ guarding self.now sector }
     {

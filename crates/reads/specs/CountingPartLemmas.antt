@@ -1,3 +1,5 @@
+-- The count of a counting part, which stops at the largest number: kept, and added up. These are lemmas; they stand here since the
+-- laws `stays` and `joins` are proved in src/.
 use Rattle.std.specs.Prelude.{◌≡◌, ℕ, ◌+◌, min}
 use Rattle.std.proofs.Common.{arith}
 use Rattle.least.specs.Fewest.{largest}

@@ -1,34 +1,22 @@
 -- Runs of events on a slow image joined, what they tell, and that it is a part that can be. These are lemmas; they stand here
 -- since the laws `sound`, `joins` and `tells` of a slow image as a part are proved in src/, and src/ cites of its own crate the
 -- specs alone.
-use Rattle.std.specs.Prelude.{◌≡◌, ℕ, List, ◌++◌, length, refl}
-use Rattle.std.proofs.Common.{sym, subst, ◌∙◌}
+use Rattle.std.specs.Prelude.{◌≡◌, ℕ, ◌+◌, List, ◌++◌, length, refl}
+use Rattle.std.proofs.Common.{sym, subst, ◌∙◌, arith}
 use Rattle.memory.specs.Shape.{size}
 use Rattle.memory.specs.Image.{shape_of}
-use Rattle.part.specs.PlainLemmas.{length-guards}
-use Rattle.part.specs.Meaning.{Meaning, Event, Sound, Tells}
+use Rattle.part.specs.PlainLemmas.{length-guards, played-++, played-tells}
+use Rattle.part.specs.Meaning.{Event, Played, Sound, Tells}
 use Rattle.side_by_side.specs.declared.slow.SlowImage.{SlowImage}
-use Rattle.side_by_side.specs.Slowly.{Played, Slowed, none, read, cycle, poll, slowly}
-
-played-++ : {n : ℕ} {a b c : Meaning} {l m : List Event} → Played n a l b → Played n b m c → Played n a (l ++ m) c
-played-++ none q = q
-played-++ (read p) q = read (played-++ p q)
-played-++ (cycle d t p) q = cycle d t (played-++ p q)
-played-++ (poll p) q = poll (played-++ p q)
+use Rattle.side_by_side.specs.Slowly.{Slowed, slowly}
 
 pub slowed-++ : (a b c : SlowImage) (l m : List Event) → Slowed a b l → Slowed b c m → Slowed a c (l ++ m)
 slowed-++ a b c l m p q =
-    let P : ℕ → Type 0 = λ n. Played n (slowly b) m (slowly c) in
+    let P : ℕ → Type 0 = λ n. Played (λ k. k ≡ n + 1) (slowly b) m (slowly c) in
     (played-++ p.0 (subst P p.1 q.0), q.1 ∙ p.1)
 
-played-tells : {n : ℕ} {a b : Meaning} {l : List Event} → Played n a l b → Tells a l b
-played-tells none = record { shape = refl; guarded = refl; image = refl }
-played-tells (read p) = let t = played-tells p in record { shape = t.shape; guarded = t.guarded; image = t.image }
-played-tells (cycle d e p) = let t = played-tells p in record { shape = t.shape; guarded = t.guarded; image = t.image }
-played-tells (poll p) = let t = played-tells p in record { shape = t.shape; guarded = t.guarded; image = t.image }
-
 pub slowed-tells : (a b : SlowImage) (l : List Event) → Slowed a b l → Tells (slowly a) l (slowly b)
-slowed-tells a b l p = played-tells p.0
+slowed-tells a b l p = played-tells (a.busy_number + 1) (omega arith) p.0
 
 pub slow-sound : (s : SlowImage) → Sound (slowly s)
 slow-sound s =

@@ -57,7 +57,7 @@ impl Caller {
         Ok(image)
     }
 
-    // Two sectors more than there are.
+    // A sector, or one of two numbers past the last.
     fn sector(&mut self) -> usize {
         self.picker.pick(self.geometry.sectors + 2)
     }

@@ -14,7 +14,7 @@ use rounds::rounds;
 use std::process::ExitCode;
 use trials::picker::Picker;
 
-// Where the standard input has none.
+// The seed where the standard input has none.
 const SEED: usize = 1;
 
 // Rounds have seeds of their own, below this.

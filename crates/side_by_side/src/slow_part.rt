@@ -1,6 +1,7 @@
 // The slow image is a part.
 ghost use Rattle.std.specs.Prelude.{refl};
-ghost use Rattle.side_by_side.specs.Slowly.{none, slowly, Slowed};
+ghost use Rattle.part.specs.Meaning.{none};
+ghost use Rattle.side_by_side.specs.Slowly.{slowly, Slowed};
 ghost use Rattle.side_by_side.specs.Joins.{slow-sound, slowed-++, slowed-tells};
 
 use crate::slow::SlowImage;
@@ -27,7 +28,7 @@ impl Part for SlowImage {
     }
 
     fn is_busy(&self) -> bool {
-        self.plain.busy
+        self.plain.is_busy()
     }
 
     fn is_protected(&self, sector: usize) -> Result<bool, PartFault> {
@@ -44,9 +45,12 @@ impl Part for SlowImage {
         Ok(())
     }
 
+    // The plain image is polled once, when none is left that shows it busy.
     fn poll(&mut self) -> bool {
-        self.plain.busy = self.plain.busy && self.left > 0;
-        self.left = self.left.saturating_sub(1);
-        !self.plain.busy
+        if self.left == 0 {
+            return self.plain.poll();
+        }
+        self.left -= 1;
+        !self.plain.is_busy()
     }
 }

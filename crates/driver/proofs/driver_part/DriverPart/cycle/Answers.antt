@@ -8,7 +8,7 @@ use Rattle.port.specs.Chip as of_chip
 use Rattle.port.specs.Chip.{Chip}
 use Rattle.port.specs.Machine.{after}
 use Rattle.part.specs.declared.outline.Outline.{Outline}
-use Rattle.part.specs.Meaning.{carried}
+use Rattle.part.specs.Meaning.{carried, none}
 use Rattle.part.specs.Outline.{outlined, guarding}
 use Rattle.part.specs.Verdict.{refusal, inside, takes_length, presets}
 use Rattle.part.proofs.Refusals.{Passes, all_passed, refused, unrefused}
@@ -67,7 +67,7 @@ returns-then-not-is_clean_for-clause-trace g c =
     let s = (sendable o kind a (length c.args.data.now) p.inside p.takes_length).0 in (
       looks room kind a,
       c.is_clean_for.ensures.trace,
-      drives_quiet o chip _ (looks room kind a) [] c.is_clean_for.ensures.chip (looks_carry room kind a chip s) (looks-harmless room kind a chip s) (looks_no_status room kind a s) refl refl,
+      drives_quiet o chip _ (looks room kind a) [] c.is_clean_for.ensures.chip (looks_carry room kind a chip s) (looks-harmless room kind a chip s) (looks_no_status room kind a s) refl refl none,
     )
 
 pub invariant_of-self-2 : goal.invariant_of-self-2

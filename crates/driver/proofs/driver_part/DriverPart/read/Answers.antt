@@ -4,11 +4,12 @@ use Rattle.port.specs.Chip.{Chip}
 use Rattle.part.specs.declared.outline.Outline.{Outline}
 use Rattle.part.specs.Meaning.{asked}
 use Rattle.part.specs.Outline.{outlined}
+use Rattle.part.proofs.Playing.{played_read}
 use Rattle.part.proofs.Refusals.{read-inside, unrefused}
 use Rattle.driver.specs.Frames.{reads}
 use Rattle.driver.specs.Joins.{drives_none}
 use Rattle.driver.proofs.Reading.{reads_carry, reads-harmless, reads_no_status}
-use Rattle.driver.proofs.Driven.{drives_quiet}
+use Rattle.driver.proofs.Driven.{drives_quiet, rests}
 use Rattle.driver.proofs.driver_part.DriverPart.read.Goals as goal
 
 pub returns-in_err-check_read-clause-trace : goal.returns-in_err-check_read-clause-trace
@@ -27,5 +28,6 @@ returns-clause-trace g c =
     let few : a + n ≤ 16777216 = omega (arith, within.0, o.geometry.small) in (
       reads room a n,
       c.read.ensures.trace,
-      drives_quiet o chip _ (reads room a n) (asked n ∷ []) c.read.ensures.chip (reads_carry room a n chip few) (reads-harmless room a n chip few) (reads_no_status room a n few) refl refl,
+      drives_quiet o chip _ (reads room a n) (asked n ∷ []) c.read.ensures.chip (reads_carry room a n chip few) (reads-harmless room a n chip few) (reads_no_status room a n few) refl refl
+          (played_read _ _ n (rests o chip within.1) refl),
     )

@@ -1,14 +1,14 @@
-use Rattle.std.proofs.Common.{◌≡◌, ℕ, Bool, List, length, vec_items, refl, sym, ap, ◌∙◌}
+use Rattle.std.proofs.Common.{◌≡◌, length, vec_items, refl, sym, ap, ◌∙◌}
 use Rattle.std.proofs.lemmas.Result.{err_from_is_err_and}
 use Rattle.std.proofs.lemmas.Bool.{eqb-true}
 use Rattle.memory.specs.Shape.{Shape, size}
 use Rattle.memory.specs.Cycle.{cycle_of}
 use Rattle.memory.specs.Image.{bytes_of, shape_of}
-use Rattle.part.specs.Meaning.{Meaning, protected_at}
+use Rattle.part.specs.Meaning.{none, protected_at}
 use Rattle.part.specs.Outline.{guards}
-use Rattle.part.specs.Plain.{plainly, none}
+use Rattle.part.specs.Plain.{plainly}
 use Rattle.part.specs.Verdict.{idle, clean_at}
-use Rattle.part.proofs.Playing.{played_cycle}
+use Rattle.part.proofs.Playing.{alike, played_cycle}
 use Rattle.part.proofs.Refusals.{outlines_cycle, done_all, all_passed, accepted, carried_in, unrefused}
 use Rattle.part.proofs.plain_part.PlainImagePart.cycle.Goals as goal
 
@@ -31,11 +31,7 @@ returns-clause-trace c =
     let s = c.carry.ensures.shape in
     let i = c.carry.ensures.bytes ∙ carried_in m.shape m.image c.args.kind c.args.address c.args.data.now w passes.inside in
     let k = ap (λ (x : Shape). guards p.status.bits x.sectors) s in (
-      played_cycle m _ y (eqb-true _ _ passes.idle) (accepted m c.args.kind c.args.address c.args.data.now d)
-          (altered (shape_of c.carry.new.self) m.shape (bytes_of c.carry.new.self) _ (guards p.status.bits c.carry.new.self.geometry.sectors) _ s i k),
+      played_cycle m _ y 1 refl (eqb-true _ _ passes.idle) (accepted m c.args.kind c.args.address c.args.data.now d)
+          (alike (shape_of c.carry.new.self) m.shape (bytes_of c.carry.new.self) _ (guards p.status.bits c.carry.new.self.geometry.sectors) _ 1 1 s i k refl),
       refl,
     )
-  where
-    altered : (s t : Shape) (i j : List ℕ) (g h : List Bool) → s ≡ t → i ≡ j → g ≡ h
-        → ◌≡◌ {A = Meaning} (record { shape = s; image = i; guarded = g; due = 1 }) (record { shape = t; image = j; guarded = h; due = 1 })
-    altered s t i j g h e f k = cc

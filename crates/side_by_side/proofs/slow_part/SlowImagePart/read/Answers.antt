@@ -1,6 +1,6 @@
 use Rattle.std.proofs.Common.{refl}
-use Rattle.side_by_side.proofs.Slows.{slowly_same, played_read}
+use Rattle.side_by_side.proofs.Slows.{slow_read}
 use Rattle.side_by_side.proofs.slow_part.SlowImagePart.read.Goals as goal
 
 pub returns-clause-trace : goal.returns-clause-trace
-returns-clause-trace c = (played_read _ _ _ _ _ (slowly_same c.args.self.now c.read.new.self c.read.ensures.same), refl)
+returns-clause-trace c = (slow_read c.args.self.now c.read.new.self c.args.address _ c.read.result c.read.ensures.result c.read.ensures.same, refl)
