@@ -1,5 +1,5 @@
 // Planning a write over any part.
-ghost use Rattle.std.specs.Prelude.{◌≡◌, ℕ, ◌*◌, ◌<◌, ◌≤◌, length, IfOk, slice_index};
+ghost use Rattle.std.specs.Prelude.{◌≡◌, ℕ, ◌+◌, ◌*◌, ◌<◌, ◌≤◌, ◌⊎◌, length, IfOk, slice_index};
 ghost use Rattle.memory.specs.Shape.{size};
 ghost use Rattle.planner.specs.Asking.{whole};
 ghost use Rattle.planner.specs.Looking.{Fitting, LookedBy};
@@ -51,7 +51,8 @@ fn plan_inside<P: Part>(
 
 // The plan of least cost that writes bytes at an address, as steps and their data, and what it costs: cycles and data bytes.
 // The checks in their order: the range, polls due, a protected change, room for the steps, room for the data. What follows the
-// plan in either buffer is left as it was, and all of both where the write is not planned. The part is only looked at.
+// plan in either buffer is left as it was, and all of both where the write is not planned. The part is only looked at, and not
+// at all by the first two checks.
 pub fn plan<P: Part>(
     part: &mut P,
     address: usize,
@@ -60,6 +61,7 @@ pub fn plan<P: Part>(
     data: &mut [u8],
 ) -> Result<Cost, PlanFault>
     ensures asked { LookedBy P.Part (3 * size (P.Part.meaning part.old).shape) part.old part.new }
+    ensures unasked { (size (P.Part.meaning part.old).shape < address + length bytes.now) ⊎ (0 < (P.Part.meaning part.old).due) → part.new ≡ part.old }
     ensures room { IfOk result (λ cost. (cost.0 ≤ length steps.old) × (cost.1 ≤ length «data».old)) }
     ensures answer { Handed (plan_call (P.Part.meaning part.old) address bytes.now (length steps.old) (length «data».old)) result steps.old steps.new «data».old «data».new }
 {
