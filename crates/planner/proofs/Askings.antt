@@ -1,18 +1,19 @@
 -- How many bytes are asked for, added up.
-use Rattle.std.proofs.Common.{◌≡◌, ℕ, zero, suc, ◌+◌, ◌-◌, ◌*◌, ◌<◌, ◌≤◌, Bool, true, false, cond, ◌⊎◌, List, sym, refl, ap, ◌∙◌, subst, inl, inr, zero-add, add-zero, add-suc, add_assoc, add-one, arith}
-use Rattle.std.proofs.lemmas.Bool.{cases_eq, true≢false}
+use Rattle.std.proofs.Common.{◌≡◌, ℕ, zero, suc, ◌+◌, ◌-◌, ◌*◌, ◌<◌, ◌≤◌, Bool, true, false, cond, ◌⊎◌, List, sym, refl, ap, ◌∙◌, subst, inl, inr, zero-add, add-zero, add-suc, add_assoc, add-one, suc-mul, ap₂, arith}
+use Rattle.std.proofs.lemmas.Bool.{cases_eq, cond-false, true≢false}
 use Rattle.memory.specs.Protection.{free}
 use Rattle.memory.proofs.Blocks.{below_end}
 use Rattle.part.specs.Meaning.{Meaning, protected_at}
-use Rattle.planner.specs.Looking.{touched}
-use Rattle.planner.specs.Asking.{bytes_on, bytes_off, for_barred, for_bulk, whole}
+use Rattle.least.specs.Fewest.{fewest}
+use Rattle.planner.specs.declared.chosen.Treatment.{Treatment}
+use Rattle.planner.specs.declared.chosen.Treatment.TheVariants.{Kept, Erased}
+use Rattle.planner.specs.Looking.{covered, touched}
+use Rattle.planner.specs.Asking.{bytes_below, bytes_on, bytes_off, for_barred, for_bulk, for_marks, for_page, for_pages, for_steps, whole}
+use Rattle.planner.specs.Survey.{erases_all, off_from, sector_treatment}
 
 module _ (address : ℕ) (bytes : List ℕ) (q : ℕ) where
   pub on_more : (n : ℕ) → bytes_on address bytes q (n + 1) ≡ bytes_on address bytes q n + cond (touched address bytes (q + n)) 64 0
   on_more n = ap (bytes_on address bytes q) (add-one n)
-
-  pub off_more : (n : ℕ) → bytes_off address bytes q (n + 1) ≡ bytes_off address bytes q n + cond (touched address bytes (q + n)) 0 64
-  off_more n = ap (bytes_off address bytes q) (add-one n)
 
   pub on_next : (p : ℕ) → q ≤ p → bytes_on address bytes q (p + 1 - q) ≡ bytes_on address bytes q (p - q) + cond (touched address bytes p) 64 0
   on_next p h =
@@ -20,13 +21,6 @@ module _ (address : ℕ) (bytes : List ℕ) (q : ℕ) where
       let here : q + (p - q) ≡ p = omega arith in
       ap (bytes_on address bytes q) more
       ∙ (on_more (p - q) ∙ ap (λ x. bytes_on address bytes q (p - q) + cond (touched address bytes x) 64 0) here)
-
-  pub off_next : (p : ℕ) → q ≤ p → bytes_off address bytes q (p + 1 - q) ≡ bytes_off address bytes q (p - q) + cond (touched address bytes p) 0 64
-  off_next p h =
-      let more : p + 1 - q ≡ p - q + 1 = omega arith in
-      let here : q + (p - q) ≡ p = omega arith in
-      ap (bytes_off address bytes q) more
-      ∙ (off_more (p - q) ∙ ap (λ x. bytes_off address bytes q (p - q) + cond (touched address bytes x) 0 64) here)
 
   either : (t : Bool) → cond t 64 0 + cond t 0 64 ≡ 64
   either true = refl
@@ -47,17 +41,99 @@ module _ (address : ℕ) (bytes : List ℕ) (q : ℕ) where
   on_front n j h =
       let all : j + (n - j) ≡ n = omega arith in omega (arith, on_add j (n - j), ap (bytes_on address bytes q) all)
 
-  pub off_front : (n j : ℕ) → j ≤ n → bytes_off address bytes q j ≤ bytes_off address bytes q n
-  off_front zero j h = subst (λ x. bytes_off address bytes q x ≤ 0) (none j h) (omega arith)
+-- the look at an erase, that ends where its cost reaches a limit
+module _ (m : Meaning) (address : ℕ) (bytes : List ℕ) (limit cost : ℕ × ℕ) (q : ℕ) where
+  abbrev looked_below : ℕ → ℕ
+  looked_below n = bytes_below m address bytes limit cost q n
+
+  pub below_next :
+      (p : ℕ) → q ≤ p → fewest.leq limit (fewest.plus cost (off_from m address bytes q (p - q))) ≡ false
+      → looked_below (p + 1 - q) ≡ looked_below (p - q) + cond (touched address bytes p) 0 64
+  below_next p h e =
+      let more : p + 1 - q ≡ p - q + 1 = omega arith in
+      let here : q + (p - q) ≡ p = omega arith in
+      ap looked_below (more ∙ add-one (p - q))
+      ∙ ap (λ (x : ℕ). looked_below (p - q) + x) (cond-false _ _ _ e ∙ ap {B = ℕ} (λ (x : ℕ). cond (touched address bytes x) 0 64) here)
+
+  lower : (b : Bool) (x y z : ℕ) → x ≤ y → x + cond b 0 z ≤ y + z
+  lower true x y z h = omega arith
+  lower false x y z h = omega arith
+
+  pub below_off : (n : ℕ) → looked_below n ≤ bytes_off address bytes q n
+  below_off zero = omega arith
+  below_off (suc n) =
+      lower (fewest.leq limit (fewest.plus cost (off_from m address bytes q n))) (looked_below n) (bytes_off address bytes q n)
+      (cond (touched address bytes (q + n)) 0 64) (below_off n)
+
+  pub below_front : (n j : ℕ) → j ≤ n → looked_below j ≤ looked_below n
+  below_front zero j h = subst (λ x. looked_below x ≤ 0) (none j h) (omega arith)
     where
       none : (i : ℕ) → i ≤ zero → zero ≡ i
       none i l = omega arith
-  off_front (suc n) j h = go (cases_eq j (suc n)) (λ l. off_front n j l)
+  below_front (suc n) j h = go (cases_eq j (suc n)) (λ l. below_front n j l)
     where
-      go : (j ≡ suc n) ⊎ (j ≡ suc n → ⊥) → (j ≤ n → bytes_off address bytes q j ≤ bytes_off address bytes q n)
-          → bytes_off address bytes q j ≤ bytes_off address bytes q (suc n)
-      go (inl e) ih = subst (λ x. bytes_off address bytes q x ≤ bytes_off address bytes q (suc n)) (sym e) (omega arith)
+      go : (j ≡ suc n) ⊎ (j ≡ suc n → ⊥) → (j ≤ n → looked_below j ≤ looked_below n) → looked_below j ≤ looked_below (suc n)
+      go (inl e) ih = subst (λ x. looked_below x ≤ looked_below (suc n)) (sym e) (omega arith)
       go (inr d) ih = omega (arith, ih (omega arith))
+
+-- the steps of pages
+module _ (address : ℕ) (bytes : List ℕ) (treatment : Treatment) (q : ℕ) where
+  pub steps_next :
+      (p : ℕ) → q ≤ p
+      → for_pages address bytes treatment q (p + 1 - q) ≡ for_pages address bytes treatment q (p - q) + for_page address bytes treatment p
+  steps_next p h =
+      let more : p + 1 - q ≡ p - q + 1 = omega arith in
+      let here : q + (p - q) ≡ p = omega arith in
+      ap (for_pages address bytes treatment q) (more ∙ add-one (p - q))
+      ∙ ap (λ (x : ℕ). for_pages address bytes treatment q (p - q) + for_page address bytes treatment x) here
+
+pub step_most : (address : ℕ) (bytes : List ℕ) (treatment : Treatment) (q : ℕ) → for_page address bytes treatment q ≤ 64
+step_most address bytes Kept q = go (touched address bytes q)
+  where
+    go : (t : Bool) → cond t 64 0 ≤ 64
+    go true = omega arith
+    go false = omega arith
+step_most address bytes Erased q = go (covered address bytes q)
+  where
+    go : (t : Bool) → cond t 0 64 ≤ 64
+    go true = omega arith
+    go false = omega arith
+
+pub steps_most : (address : ℕ) (bytes : List ℕ) (treatment : Treatment) (q n : ℕ) → for_pages address bytes treatment q n ≤ 64 * n
+steps_most address bytes treatment q zero = omega arith
+steps_most address bytes treatment q (suc n) = omega (arith, steps_most address bytes treatment q n, step_most address bytes treatment (q + n))
+
+-- and of sectors
+module _ (m : Meaning) (address : ℕ) (bytes : List ℕ) where
+  pub marks_more :
+      (mark : ℕ → Treatment) (n : ℕ)
+      → for_marks m address bytes mark (n + 1)
+      ≡ for_marks m address bytes mark n + for_pages address bytes (mark n) (n * m.shape.pages) m.shape.pages
+  marks_more mark n = ap (for_marks m address bytes mark) (add-one n)
+
+  pub marks_same :
+      (f g : ℕ → Treatment) (n : ℕ) → ((k : ℕ) → k < n → f k ≡ g k) → for_marks m address bytes f n ≡ for_marks m address bytes g n
+  marks_same f g zero h = refl
+  marks_same f g (suc n) h =
+      ap₂ (λ (x y : ℕ). x + y) (marks_same f g n (λ k l. h k (omega arith)))
+      (ap (λ (t : Treatment). for_pages address bytes t (n * m.shape.pages) m.shape.pages) (h n (omega arith)))
+
+  marks_most : (mark : ℕ → Treatment) (n : ℕ) → for_marks m address bytes mark n ≤ 64 * (n * m.shape.pages)
+  marks_most mark zero = omega arith
+  marks_most mark (suc n) =
+      omega (arith, marks_most mark n, steps_most address bytes (mark n) (n * m.shape.pages) m.shape.pages, suc-mul n m.shape.pages)
+
+  pub for_steps_most : for_steps m address bytes ≤ whole m
+  for_steps_most = go (erases_all m address bytes)
+    where
+      go : (b : Bool) → cond b (for_pages address bytes Erased 0 (m.shape.sectors * m.shape.pages)) (for_marks m address bytes (sector_treatment m address bytes) m.shape.sectors) ≤ whole m
+      go true = steps_most address bytes Erased 0 (m.shape.sectors * m.shape.pages)
+      go false = marks_most (sector_treatment m address bytes) m.shape.sectors
+
+-- none where there is no room
+pub unless_full : (f : Bool) (n : ℕ) → cond f 0 n ≤ n
+unless_full true n = omega arith
+unless_full false n = omega arith
 
 -- the pages of a sector after those of the sectors before it, where a sector has p pages
 pub on_sectors :
@@ -99,5 +175,5 @@ module _ (m n : Meaning) (address : ℕ) (bytes : List ℕ) (e : n ≡ m) where
   pub asked_most : for_barred m address bytes + (whole n + for_bulk n) ≤ 3 * whole m
   asked_most = omega (arith, asked_choice)
 
-  pub asked-all : 2 * whole m + whole n ≤ 3 * whole m
-  asked-all = omega (arith, ap whole e)
+  pub asked-all : 2 * whole m + for_steps n address bytes ≤ 3 * whole m
+  asked-all = omega (arith, for_steps_most n address bytes, ap whole e)

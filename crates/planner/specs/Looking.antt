@@ -1,5 +1,5 @@
 -- Looking at a part: bytes are asked for, and nothing alters.
-use Rattle.std.specs.Prelude.{◌≡◌, ℕ, ◌+◌, ◌*◌, ◌<◌, ◌≤◌, Bool, true, ◌&&◌, List, [], ◌∷◌, length, nat_lt}
+use Rattle.std.specs.Prelude.{◌≡◌, ℕ, ◌+◌, ◌*◌, ◌<◌, ◌≤◌, Bool, true, ◌&&◌, List, [], ◌∷◌, length, nat_le, nat_lt}
 use Rattle.memory.specs.Shape.{size}
 use Rattle.memory.specs.Page.{put}
 use Rattle.part.specs.declared.part.Part.{Ghosts}
@@ -43,3 +43,7 @@ PagesIn m q n = q + n ≤ m.shape.sectors * m.shape.pages
 -- the write has bytes for page q, of pages of 64 bytes
 abbrev pub touched : ℕ → List ℕ → ℕ → Bool
 touched address bytes q = nat_lt (q * 64) (address + length bytes) && nat_lt address (q * 64 + 64)
+
+-- it has all of the page
+abbrev pub covered : ℕ → List ℕ → ℕ → Bool
+covered address bytes q = nat_le address (q * 64) && nat_le (q * 64 + 64) (address + length bytes)

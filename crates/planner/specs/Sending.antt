@@ -1,5 +1,5 @@
 -- Cycles put on a sheet, at its next free places.
-use Rattle.std.specs.Prelude.{◌≡◌, ℕ, ◌+◌, ◌≤◌, Bool, true, false, List, length}
+use Rattle.std.specs.Prelude.{◌≡◌, ℕ, ◌+◌, ◌≤◌, Bool, true, false, List, length, nat_le}
 use Rattle.std.proofs.lemmas.List.Edits.{sets}
 use Rattle.memory.specs.declared.kind.Kind.{Kind}
 use Rattle.memory.specs.declared.kind.Kind.TheVariants.{Program, Alter, Preset, SectorErase, BulkErase}
@@ -7,6 +7,10 @@ use Rattle.memory.specs.Cycle.{Cycle}
 use Rattle.least.specs.declared.step.Step.{Step}
 use Rattle.least.specs.Steps.{steps_from, steps_of, data_of}
 use Rattle.planner.specs.declared.sheet.Sheet.{Sheet}
+
+-- there is no room for a step
+abbrev pub full : Sheet → Bool
+full s = nat_le (length s.steps.now) s.step_count
 
 -- the cycles were put there, and the next free places are those after them
 pub record Put (l : List Cycle) (a b : Sheet) : Type 0 where

@@ -1,8 +1,8 @@
 // Looking at a part's pages, and at what a write wants of them.
-ghost use Rattle.std.specs.Prelude.{◌≡◌, ◌+◌, ◌<◌};
+ghost use Rattle.std.specs.Prelude.{◌≡◌, ◌+◌, ◌<◌, if◌then◌else◌};
 ghost use Rattle.memory.specs.Page.{page};
 ghost use Rattle.part.specs.Meaning.{protected_at};
-ghost use Rattle.planner.specs.Looking.{Fitting, LookedBy, Readable, touched, wanted};
+ghost use Rattle.planner.specs.Looking.{Fitting, LookedBy, Readable, covered, touched, wanted};
 
 use crate::overlay::Write;
 use crate::page::Page;
@@ -44,7 +44,7 @@ pub(crate) fn both_pages<P: Part>(part: &mut P, write: Write<'_>, q: usize) -> (
 // Page q as a write wants it. A page that the write covers is not read.
 pub(crate) fn wanted_page<P: Part>(part: &mut P, write: Write<'_>, q: usize) -> Page
     requires { Fitting (P.Part.meaning part.old) write.address write.bytes.now × Readable (P.Part.meaning part.old) q }
-    ensures looked { LookedBy P.Part 64 part.old part.new }
+    ensures looked { LookedBy P.Part (if covered write.entry.address write.entry.bytes.now q then 0 else 64) part.old part.new }
     ensures bytes { result ≡ page 64 q (wanted (P.Part.meaning part.old) write.entry.address write.entry.bytes.now) }
 {
     let start = q * PAGE_BYTES;

@@ -1,6 +1,6 @@
 // A sheet: a step list and a data buffer, filled from their fronts. Where there is no room nothing is put. The caller lends the two
 // apart, as the planner has no heap, and each may be too short, which is a refusal of its own.
-ghost use Rattle.std.specs.Prelude.{◌≡◌, ◌+◌, ◌*◌, ◌^◌, ◌<◌, ◌≤◌, true, [], ◌∷◌, length, nat_le};
+ghost use Rattle.std.specs.Prelude.{◌≡◌, ◌+◌, ◌*◌, ◌^◌, ◌<◌, ◌≤◌, true, [], ◌∷◌, length};
 ghost use Rattle.memory.specs.Cycle.{cycle_of};
 ghost use Rattle.least.specs.Plan.{bytes_from, sending};
 ghost use Rattle.least.specs.Steps.{address_of};
@@ -25,7 +25,7 @@ pub(crate) struct Sheet<'a> {
 }
 
 impl<'a> Sheet<'a> {
-    ghost use Rattle.planner.specs.Sending.{Sent, of_page};
+    ghost use Rattle.planner.specs.Sending.{Sent, full, of_page};
 
     pub(crate) fn new(steps: &'a mut [Step], data: &'a mut [u8]) -> Sheet<'a>
         ensures lent { (result.steps.ghost_name ≡ steps.entry.ghost_name) × (result.data.ghost_name ≡ «data».entry.ghost_name) }
@@ -42,7 +42,7 @@ impl<'a> Sheet<'a> {
 
     // Whether there is no room for a step. The step list has room for the plan only, so the plan then has no more steps.
     pub(crate) fn is_full(&self) -> bool
-        ensures { result ≡ nat_le (length self.now.steps.now) self.now.step_count }
+        ensures { result ≡ full self.now }
     {
         self.step_count >= self.steps.len()
     }

@@ -2,7 +2,7 @@
 // other page is read unless an erase may still be lower.
 ghost use Rattle.std.specs.Prelude.{◌≡◌, ℕ, ◌+◌, ◌^◌, ◌<◌, IfSome, if◌then◌else◌};
 ghost use Rattle.least.specs.Fewest.{fewest};
-ghost use Rattle.planner.specs.Asking.{bytes_off, bytes_on};
+ghost use Rattle.planner.specs.Asking.{bytes_below, bytes_on};
 ghost use Rattle.planner.specs.Looking.{Fitting, LookedBy, PagesIn, Readable, touched};
 ghost use Rattle.planner.specs.Survey.{UpTo, below, erased_from, kept, kept_from, on_from, preset_off, preset_on};
 
@@ -113,7 +113,7 @@ pub(crate) fn erase_costs<P: Part>(
     requires fitting { Fitting (P.Part.meaning part.old) write.address write.bytes.now }
     requires count_bound { PagesIn (P.Part.meaning part.old) first count }
     requires presets_bound { UpTo 262144 presets }
-    ensures looked { LookedBy P.Part (bytes_off write.entry.address write.entry.bytes.now first count) part.old part.new }
+    ensures looked { LookedBy P.Part (bytes_below (P.Part.meaning part.old) write.entry.address write.entry.bytes.now limit (fewest.plus (1, 0) presets) first count) part.old part.new }
     ensures bound { (n : ℕ) → UpTo n presets → IfSome result (UpTo (1 + n + count)) }
     ensures value { presets ≡ on_from (P.Part.meaning part.old) write.entry.address write.entry.bytes.now first count → result ≡ below limit (erased_from (P.Part.meaning part.old) write.entry.address write.entry.bytes.now first count) }
 {

@@ -5,7 +5,7 @@ use Rattle.least.specs.Fewest.{fewest}
 use Rattle.planner.specs.declared.chosen.Treatment.TheVariants.{Kept, Erased}
 use Rattle.least.specs.Sectors.{sector_cost}
 use Rattle.planner.specs.Survey.{erased_from, erases, kept, kept_from, on_from, preset}
-use Rattle.planner.proofs.Askings.{on_and_off}
+use Rattle.planner.proofs.Askings.{below_off, on_and_off}
 use Rattle.planner.proofs.Lookings.{looked_join}
 use Rattle.planner.proofs.Surveys.{chose_first, chose_second}
 use Rattle.planner.proofs.choice.sector_cost.Goals as goal
@@ -29,6 +29,7 @@ returns-in-Some g c =
     let k = c.args.k in
     let p = c.pages-pages.result in
     let touched = c.touched_costs-kept.ensures in
+    let found = c.touched_costs-kept.result in
     let erase = c.in-Some.ensures in
     let e = c.pages-pages.ensures in
     let low = c.requires.0.sound.low in
@@ -38,7 +39,8 @@ returns-in-Some g c =
     (chose_second c.touched_costs-kept.result.cost _ c.in-Some.cost
     (erase.value (touched.presets ∙ ap (λ n. on_from n a b (k * p) p) (sym touched.looked.same)))) in
     record {
-      looked = looked_join g.P.Part g.met.P.Part.joins _ _ _ _ _ _ touched.looked erase.looked (omega (arith, on_and_off a b (k * p) p, e));
+      looked = looked_join g.P.Part g.met.P.Part.joins _ _ _ _ _ _ touched.looked erase.looked
+          (omega (arith, on_and_off a b (k * p) p, below_off m' a b found.cost (fewest.plus (1, 0) found.presets) (k * p) p, e));
       bound =
           let b = erase.bound p touched.bound.1 in
           ((omega (arith, b, low, e), omega (arith, b, low, e)), (omega (arith, touched.bound, low, e), omega (arith, touched.bound, low, e)));
@@ -56,6 +58,7 @@ returns-in-None g c =
     let k = c.args.k in
     let p = c.pages-pages.result in
     let touched = c.touched_costs-kept.ensures in
+    let found = c.touched_costs-kept.result in
     let erase = c.in-None.ensures in
     let e = c.pages-pages.ensures in
     let low = c.requires.0.sound.low in
@@ -65,7 +68,8 @@ returns-in-None g c =
     (chose_first c.touched_costs-kept.result.cost _
     (erase.value (touched.presets ∙ ap (λ n. on_from n a b (k * p) p) (sym touched.looked.same)))) in
     record {
-      looked = looked_join g.P.Part g.met.P.Part.joins _ _ _ _ _ _ touched.looked erase.looked (omega (arith, on_and_off a b (k * p) p, e));
+      looked = looked_join g.P.Part g.met.P.Part.joins _ _ _ _ _ _ touched.looked erase.looked
+          (omega (arith, on_and_off a b (k * p) p, below_off m' a b found.cost (fewest.plus (1, 0) found.presets) (k * p) p, e));
       bound = ((omega (arith, touched.bound, low, e), omega (arith, touched.bound, low, e)), (omega (arith, touched.bound, low, e), omega (arith, touched.bound, low, e)));
       treatment = ap (λ (x : Bool × (ℕ × ℕ)). cond x.0 Erased Kept) both;
       value = ap (λ (x : Bool × (ℕ × ℕ)). x.1) both;
