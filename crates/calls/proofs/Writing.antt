@@ -14,7 +14,8 @@ use Rattle.least.specs.Writes as writes
 use Rattle.least.specs.Theorems as theorems
 use Rattle.least.specs.Theorems.{Says, LeastBy}
 use Rattle.planner.specs.Waits.{Polls}
-use Rattle.planner.specs.Looking.{LookedBy, wanted}
+use Rattle.planner.specs.Looking.{LookedBy}
+use Rattle.planner.specs.Wanted.{wanted}
 use Rattle.planner.specs.Running.{Carries, Did, Sends, none as sent_none, more as sent_more}
 use Rattle.planner.proofs.Doings.{did_polls, did_step, did_join, sends_did}
 use Rattle.writing.proofs.Carrying.{did_looked, did_over, polls-idle, sends-idle}

@@ -7,7 +7,7 @@ use Rattle.part.specs.Meaning.{Meaning, protected_at}
 use Rattle.least.specs.Fewest.{fewest}
 use Rattle.planner.specs.declared.chosen.Treatment.{Treatment}
 use Rattle.planner.specs.declared.chosen.Treatment.TheVariants.{Kept, Erased}
-use Rattle.planner.specs.Looking.{covered, touched}
+use Rattle.planner.specs.Wanted.{covered, touched}
 use Rattle.planner.specs.Asking.{bytes_below, bytes_on, bytes_off, for_barred, for_bulk, for_marks, for_page, for_pages, for_steps, whole}
 use Rattle.planner.specs.Survey.{erases_all, off_from, sector_treatment}
 

@@ -19,7 +19,7 @@ use Rattle.least.specs.Sectors.{over_sector, erase_cost, sectors_cost, bulk_cost
 use Rattle.least.specs.Plan.{keep_page, erased_page, least_cost, keep_cycles, presets, list_to, pages_of}
 use Rattle.least.specs.Steps.{steps_of, data_of}
 use Rattle.least.specs.Writes.{planned, refused, past_the_end, steps_short, data_short, unless_barred, unless_short, plan_write}
-use Rattle.planner.specs.Looking.{Fitting, wanted}
+use Rattle.planner.specs.Wanted.{Fitting, wanted}
 use Rattle.planner.specs.declared.chosen.Treatment.{Treatment}
 use Rattle.planner.specs.declared.chosen.Treatment.TheVariants as treatment
 use Rattle.planner.specs.declared.chosen.Erasure.{Erasure}

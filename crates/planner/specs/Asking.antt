@@ -6,7 +6,7 @@ use Rattle.part.specs.Meaning.{Meaning, protected_at}
 use Rattle.least.specs.Fewest.{fewest}
 use Rattle.planner.specs.declared.chosen.Treatment.{Treatment}
 use Rattle.planner.specs.declared.chosen.Treatment.TheVariants.{Kept, Erased}
-use Rattle.planner.specs.Looking.{covered, touched}
+use Rattle.planner.specs.Wanted.{covered, touched}
 use Rattle.planner.specs.Survey.{erases_all, off_from, sector_treatment}
 
 -- the bytes of those of n pages from page q on that a write touches, and of the others

@@ -4,6 +4,7 @@ pub mod Running
 pub mod Sent
 pub mod Overlay
 pub mod Looking
+pub mod Wanted
 pub mod Asking
 pub mod Sending
 pub mod Survey

@@ -2,7 +2,8 @@
 ghost use Rattle.std.specs.Prelude.{◌≡◌, ℕ, ◌+◌, ◌*◌, ◌<◌, ◌≤◌, ◌⊎◌, length, IfOk, slice_index};
 ghost use Rattle.memory.specs.Shape.{size};
 ghost use Rattle.planner.specs.Asking.{whole};
-ghost use Rattle.planner.specs.Looking.{Fitting, LookedBy};
+ghost use Rattle.planner.specs.Looking.{LookedBy};
+ghost use Rattle.planner.specs.Wanted.{Fitting};
 ghost use Rattle.planner.specs.Call.{Handed, plan_call, plan_inside};
 
 use crate::barred::lowest_barred;

@@ -3,7 +3,8 @@
 ghost use Rattle.std.specs.Prelude.{◌≡◌, ℕ, ◌+◌, ◌^◌, ◌<◌, IfSome, if◌then◌else◌};
 ghost use Rattle.least.specs.Fewest.{fewest};
 ghost use Rattle.planner.specs.Asking.{bytes_below, bytes_on};
-ghost use Rattle.planner.specs.Looking.{Fitting, LookedBy, PagesIn, Readable, touched};
+ghost use Rattle.planner.specs.Looking.{LookedBy};
+ghost use Rattle.planner.specs.Wanted.{Fitting, PagesIn, Readable, touched};
 ghost use Rattle.planner.specs.Survey.{UpTo, below, erased_from, kept, kept_from, on_from, preset_off, preset_on};
 
 use crate::look::{both_pages, read_page};

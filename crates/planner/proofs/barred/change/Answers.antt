@@ -1,7 +1,7 @@
 use Rattle.std.proofs.Common.{◌≡◌, ℕ, min, List, length, Some, None, ap, arith}
 use Rattle.memory.specs.Page.{page}
 use Rattle.part.specs.Meaning.{Meaning}
-use Rattle.planner.specs.Looking.{Fitting, Readable, wanted}
+use Rattle.planner.specs.Wanted.{Fitting, Readable, wanted}
 use Rattle.planner.proofs.Barrings.{first_of}
 use Rattle.planner.proofs.Lookings.{length-here, length-wanted}
 use Rattle.planner.proofs.barred.change.Goals as goal

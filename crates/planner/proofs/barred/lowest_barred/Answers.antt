@@ -3,7 +3,8 @@ use Rattle.memory.specs.Protection.{free}
 use Rattle.part.specs.Meaning.{Meaning, protected_at}
 use Rattle.planner.specs.Changes.{FirstIn}
 use Rattle.planner.specs.Asking.{bytes_on}
-use Rattle.planner.specs.Looking.{LookedBy, wanted}
+use Rattle.planner.specs.Looking.{LookedBy}
+use Rattle.planner.specs.Wanted.{wanted}
 use Rattle.planner.proofs.Barrings.{barred_open, barred_same, barred_some}
 use Rattle.planner.proofs.Askings.{guarded_more, guarded_most, on_front, on_sectors}
 use Rattle.planner.proofs.Lookings.{looked_join, looked_most}

@@ -3,7 +3,8 @@ use Rattle.memory.specs.Protection.{free}
 use Rattle.part.specs.Meaning.{protected_at}
 use Rattle.least.specs.Barred.{Barred}
 use Rattle.planner.specs.Asking.{bytes_on}
-use Rattle.planner.specs.Looking.{LookedBy, wanted}
+use Rattle.planner.specs.Looking.{LookedBy}
+use Rattle.planner.specs.Wanted.{wanted}
 use Rattle.planner.proofs.barred.lowest_barred.Given as goal
 
 abbrev pub invariant-loop-k : goal.invariant-loop-k
