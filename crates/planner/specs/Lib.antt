@@ -1,7 +1,7 @@
 pub mod Waits
 pub mod RunRows
 pub mod Running
-pub mod Sent
+pub mod SameData
 pub mod Overlay
 pub mod Looking
 pub mod Wanted
