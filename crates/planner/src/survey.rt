@@ -14,7 +14,7 @@ use least::cost::{Cost, ERASE, NOTHING, added, at_most};
 use part::part::Part;
 use std::ops::AddAssign;
 
-// Both together. No count here comes near the largest number, so `added` stops at none.
+// The two added. No count here comes near the largest number, so none is cut off.
 fn plus(a: Cost, b: Cost) -> Cost
     requires { (a.0 + b.0 < 2 ^ 64) × (a.1 + b.1 < 2 ^ 64) }
     ensures { result ≡ fewest.plus a b }
