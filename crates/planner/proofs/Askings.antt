@@ -8,8 +8,17 @@ use Rattle.least.specs.Fewest.{fewest}
 use Rattle.planner.specs.declared.chosen.Treatment.{Treatment}
 use Rattle.planner.specs.declared.chosen.Treatment.TheVariants.{Kept, Erased}
 use Rattle.planner.specs.Wanted.{covered, touched}
-use Rattle.planner.specs.Asking.{bytes_below, bytes_on, bytes_off, for_barred, for_bulk, for_marks, for_page, for_pages, for_steps, whole}
-use Rattle.planner.specs.Survey.{erases_all, off_from, sector_treatment}
+use Rattle.planner.specs.Asking.{bytes_below, bytes_on, for_barred, for_bulk, for_costs, for_marks, for_page, for_pages, for_sectors, for_steps, planning}
+use Rattle.planner.specs.Survey.{by_sectors, erases_all, kept_from, off_from, on_all, on_from, sector_treatment}
+
+-- the bytes of those of n pages from page q on that a write does not touch
+abbrev bytes_off : ℕ → List ℕ → ℕ → ℕ → ℕ
+bytes_off address bytes q zero = 0
+bytes_off address bytes q (suc n) = bytes_off address bytes q n + cond (touched address bytes (q + n)) 0 64
+
+-- the bytes of all pages
+abbrev whole : Meaning → ℕ
+whole m = 64 * (m.shape.sectors * m.shape.pages)
 
 module _ (address : ℕ) (bytes : List ℕ) (q : ℕ) where
   pub on_more : (n : ℕ) → bytes_on address bytes q (n + 1) ≡ bytes_on address bytes q n + cond (touched address bytes (q + n)) 64 0
@@ -157,23 +166,59 @@ pub guarded_most : (f : Bool) (a c : ℕ) → a ≤ c → cond f 0 a ≤ cond f 
 guarded_most true a c h = omega arith
 guarded_most false a c h = h
 
-two : (f : Bool) (b w : ℕ) → b ≤ w → cond f 0 b + (w + cond f w 0) ≤ 2 * w
-two true b w h = omega arith
-two false b w h = omega arith
+-- either the protected bytes are looked for, or the cost of erasing all
+one_of : (f : Bool) (a b w : ℕ) → a ≤ w → b ≤ w → cond f 0 a + cond f b 0 ≤ w
+one_of true a b w h k = omega (arith, k)
+one_of false a b w h k = omega (arith, h)
 
--- what is asked of a part, whose meaning stays: for the choice, for the steps too, and if a protected byte would change
+module _ (m : Meaning) (address : ℕ) (bytes : List ℕ) where
+  pub sectors_more :
+      (n : ℕ)
+      → for_sectors m address bytes (n + 1)
+      ≡ for_sectors m address bytes n + for_costs m address bytes (n * m.shape.pages) m.shape.pages
+  sectors_more n = ap (for_sectors m address bytes) (add-one n)
+
+  sectors_most : (n : ℕ) → for_sectors m address bytes n ≤ 64 * (n * m.shape.pages)
+  sectors_most zero = omega arith
+  sectors_most (suc n) =
+      let q : ℕ = n * m.shape.pages in
+      omega (
+        arith,
+        sectors_most n,
+        on_and_off address bytes q m.shape.pages,
+        below_off m address bytes (kept_from m address bytes q m.shape.pages) (fewest.plus (1, 0) (on_from m address bytes q m.shape.pages)) q m.shape.pages,
+        suc-mul n m.shape.pages,
+      )
+
+  first_most : for_barred m address bytes + for_bulk m address bytes ≤ whole m
+  first_most =
+      let n : ℕ = m.shape.sectors * m.shape.pages in
+      let limit : ℕ × ℕ = by_sectors m address bytes in
+      let cost : ℕ × ℕ = fewest.plus (1, 0) (on_all m address bytes) in
+      one_of (free (protected_at m) m.shape.sectors) (bytes_on address bytes 0 n) (bytes_below m address bytes limit cost 0 n) (whole m)
+      (omega (arith, on_and_off address bytes 0 n)) (omega (arith, on_and_off address bytes 0 n, below_off m address bytes limit cost 0 n))
+
+  pub planning_most : planning m address bytes ≤ 3 * whole m
+  planning_most = omega (arith, first_most, sectors_most m.shape.sectors, for_steps_most m address bytes)
+
+  pub asked_barred : for_barred m address bytes ≤ planning m address bytes
+  asked_barred = omega arith
+
+-- what is asked of a part whose meaning stays: for the choice too, and for the steps
 module _ (m n : Meaning) (address : ℕ) (bytes : List ℕ) (e : n ≡ m) where
-  pub asked_choice : for_barred m address bytes + (whole n + for_bulk n) ≤ 2 * whole m
-  asked_choice =
-      subst (λ x. for_barred m address bytes + (whole x + for_bulk x) ≤ 2 * whole m) (sym e)
-      (two (free (protected_at m) m.shape.sectors) (bytes_on address bytes 0 (m.shape.sectors * m.shape.pages)) (whole m)
-      (omega (arith, on_and_off address bytes 0 (m.shape.sectors * m.shape.pages))))
+  pub asked_choice :
+      for_barred m address bytes + (for_sectors n address bytes n.shape.sectors + for_bulk n address bytes)
+      ≡ for_barred m address bytes + (for_sectors m address bytes m.shape.sectors + for_bulk m address bytes)
+  asked_choice = ap (λ (x : Meaning). for_barred m address bytes + (for_sectors x address bytes x.shape.sectors + for_bulk x address bytes)) e
 
-  pub asked_barred : for_barred m address bytes ≤ 3 * whole m
-  asked_barred = omega (arith, asked_choice)
-
-  pub asked_most : for_barred m address bytes + (whole n + for_bulk n) ≤ 3 * whole m
+  pub asked_most :
+      for_barred m address bytes + (for_sectors n address bytes n.shape.sectors + for_bulk n address bytes) ≤ planning m address bytes
   asked_most = omega (arith, asked_choice)
 
-  pub asked-all : 2 * whole m + for_steps n address bytes ≤ 3 * whole m
-  asked-all = omega (arith, for_steps_most n address bytes, ap whole e)
+  pub asked_all :
+      for_barred m address bytes + (for_sectors m address bytes m.shape.sectors + for_bulk m address bytes) + for_steps n address bytes
+      ≡ planning m address bytes
+  asked_all =
+      ap
+      (λ (x : Meaning). for_barred m address bytes + (for_sectors m address bytes m.shape.sectors + for_bulk m address bytes) + for_steps x address bytes)
+      e
