@@ -1,5 +1,6 @@
 // How many bytes planning asks of a memory: of a 128Mb plain image, and of small memories where it has to read most.
 #![tactic(auto)]
+
 ghost use Rattle.std.specs.Prelude.{◌≡◌, ◌*◌, ◌≤◌, IfOk, nat_le};
 
 mod adverse;
