@@ -1,14 +1,14 @@
 -- How many bytes are asked for, added up.
-use Rattle.std.proofs.Common.{◌≡◌, ℕ, zero, suc, ◌+◌, ◌-◌, ◌*◌, ◌<◌, ◌≤◌, Bool, true, false, cond, ◌⊎◌, List, sym, refl, ap, ◌∙◌, subst, inl, inr, zero-add, add-zero, add-suc, add_assoc, add-one, suc-mul, ap₂, arith}
-use Rattle.std.proofs.lemmas.Bool.{cases_eq, cond-false, true≢false}
+use Rattle.std.proofs.Common.{◌≡◌, ℕ, zero, suc, ◌+◌, ◌-◌, ◌*◌, ◌<◌, ◌≤◌, Bool, true, false, cond, ◌⊎◌, List, sym, refl, ap, ◌∙◌, subst, inl, inr, add-zero, add-suc, add_assoc, add-one, suc-mul, ap₂, arith}
+use Rattle.std.proofs.lemmas.Bool.{cases_eq, cond-false, cond-true}
 use Rattle.memory.specs.Protection.{free}
-use Rattle.memory.proofs.Blocks.{below_end}
+use Rattle.memory.proofs.Free.{free_at}
 use Rattle.part.specs.Meaning.{Meaning, protected_at}
 use Rattle.least.specs.Fewest.{fewest}
 use Rattle.planner.specs.declared.chosen.Treatment.{Treatment}
 use Rattle.planner.specs.declared.chosen.Treatment.TheVariants.{Kept, Erased}
 use Rattle.planner.specs.Wanted.{covered, touched}
-use Rattle.planner.specs.Asking.{bytes_below, bytes_on, for_barred, for_bulk, for_costs, for_marks, for_page, for_pages, for_sectors, for_steps, planning}
+use Rattle.planner.specs.Asking.{bytes_below, bytes_on, for_barred, for_bulk, for_costs, for_guarded, for_marks, for_page, for_pages, for_sectors, for_steps, planning}
 use Rattle.planner.specs.Survey.{by_sectors, erases_all, kept_from, off_from, on_all, on_from, sector_treatment}
 
 -- the bytes of those of n pages from page q on that a write does not touch
@@ -144,32 +144,50 @@ pub unless_full : (f : Bool) (n : ℕ) → cond f 0 n ≤ n
 unless_full true n = omega arith
 unless_full false n = omega arith
 
--- the pages of a sector after those of the sectors before it, where a sector has p pages
-pub on_sectors :
-    (address : ℕ) (bytes : List ℕ) (k s p n : ℕ) → n ≡ p → k < s
-    → bytes_on address bytes 0 (k * p) + bytes_on address bytes (k * n) n ≤ bytes_on address bytes 0 (s * p)
-on_sectors address bytes k s p n e h =
-    omega (
-      arith,
-      on_add address bytes 0 (k * p) p,
-      on_front address bytes 0 (s * p) (k * p + p) (below_end p k s h),
-      ap (λ (x : ℕ). bytes_on address bytes x p) (zero-add (k * p)),
-      ap (λ (x : ℕ). bytes_on address bytes (k * x) x) e,
-    )
+-- the look for protected bytes
+module _ (m : Meaning) (address : ℕ) (bytes : List ℕ) where
+  pub guarded_on :
+      (k n : ℕ) → n ≡ m.shape.pages → protected_at m k ≡ true
+      → for_guarded m address bytes k + bytes_on address bytes (k * n) n ≡ for_guarded m address bytes (k + 1)
+  guarded_on k n e h =
+      ap (λ (x : ℕ). for_guarded m address bytes k + bytes_on address bytes (k * x) x) e
+      ∙ (ap (λ (x : ℕ). for_guarded m address bytes k + x) (sym (cond-true _ _ _ h)) ∙ ap (for_guarded m address bytes) (sym (add-one k)))
 
--- only where a sector is protected
-pub guarded_more : (f : Bool) (a b c : ℕ) → f ≡ false → a + b ≤ c → cond f 0 a + b ≤ cond f 0 c
-guarded_more true a b c e h = absurd (true≢false e)
-guarded_more false a b c e h = h
+  pub guarded_off : (k : ℕ) → protected_at m k ≡ false → for_guarded m address bytes k ≡ for_guarded m address bytes (k + 1)
+  guarded_off k h =
+      sym (add-zero _)
+      ∙ (ap (λ (x : ℕ). for_guarded m address bytes k + x) (sym (cond-false _ _ _ h)) ∙ ap (for_guarded m address bytes) (sym (add-one k)))
 
-pub guarded_most : (f : Bool) (a c : ℕ) → a ≤ c → cond f 0 a ≤ cond f 0 c
-guarded_most true a c h = omega arith
-guarded_most false a c h = h
+  pub guarded_front : (n j : ℕ) → j ≤ n → for_guarded m address bytes j ≤ for_guarded m address bytes n
+  guarded_front zero j h = subst (λ x. for_guarded m address bytes x ≤ 0) (none j h) (omega arith)
+    where
+      none : (i : ℕ) → i ≤ zero → zero ≡ i
+      none i l = omega arith
+  guarded_front (suc n) j h = go (cases_eq j (suc n)) (λ l. guarded_front n j l)
+    where
+      go : (j ≡ suc n) ⊎ (j ≡ suc n → ⊥) → (j ≤ n → for_guarded m address bytes j ≤ for_guarded m address bytes n)
+          → for_guarded m address bytes j ≤ for_guarded m address bytes (suc n)
+      go (inl e) ih = subst (λ x. for_guarded m address bytes x ≤ for_guarded m address bytes (suc n)) (sym e) (omega arith)
+      go (inr d) ih = omega (arith, ih (omega arith))
+
+  some : (b : Bool) (x : ℕ) → cond b x 0 ≤ x
+  some true x = omega arith
+  some false x = omega arith
+
+  guarded_most : (n : ℕ) → for_guarded m address bytes n ≤ 64 * (n * m.shape.pages)
+  guarded_most zero = omega arith
+  guarded_most (suc n) =
+      omega (arith, guarded_most n, some (protected_at m n) (bytes_on address bytes (n * m.shape.pages) m.shape.pages), on_and_off address bytes (n * m.shape.pages) m.shape.pages, suc-mul n m.shape.pages)
+
+  guarded_none : (n : ℕ) → ((k : ℕ) → k < n → protected_at m k ≡ false) → for_guarded m address bytes n ≡ 0
+  guarded_none zero h = refl
+  guarded_none (suc n) h =
+      ap₂ (λ (x y : ℕ). x + y) (guarded_none n (λ k l. h k (omega arith))) (cond-false (protected_at m n) _ 0 (h n (omega arith)))
 
 -- either the protected bytes are looked for, or the cost of erasing all
-one_of : (f : Bool) (a b w : ℕ) → a ≤ w → b ≤ w → cond f 0 a + cond f b 0 ≤ w
-one_of true a b w h k = omega (arith, k)
-one_of false a b w h k = omega (arith, h)
+one_of : (f : Bool) (a b w : ℕ) → a ≤ w → b ≤ w → (f ≡ true → a ≡ 0) → a + cond f b 0 ≤ w
+one_of true a b w h k z = omega (arith, k, z refl)
+one_of false a b w h k z = omega (arith, h)
 
 module _ (m : Meaning) (address : ℕ) (bytes : List ℕ) where
   pub sectors_more :
@@ -195,8 +213,9 @@ module _ (m : Meaning) (address : ℕ) (bytes : List ℕ) where
       let n : ℕ = m.shape.sectors * m.shape.pages in
       let limit : ℕ × ℕ = by_sectors m address bytes in
       let cost : ℕ × ℕ = fewest.plus (1, 0) (on_all m address bytes) in
-      one_of (free (protected_at m) m.shape.sectors) (bytes_on address bytes 0 n) (bytes_below m address bytes limit cost 0 n) (whole m)
-      (omega (arith, on_and_off address bytes 0 n)) (omega (arith, on_and_off address bytes 0 n, below_off m address bytes limit cost 0 n))
+      one_of (free (protected_at m) m.shape.sectors) (for_barred m address bytes) (bytes_below m address bytes limit cost 0 n) (whole m)
+      (guarded_most m address bytes m.shape.sectors) (omega (arith, on_and_off address bytes 0 n, below_off m address bytes limit cost 0 n))
+      (λ t. guarded_none m address bytes m.shape.sectors (λ k l. free_at (protected_at m) m.shape.sectors k t l))
 
   pub planning_most : planning m address bytes ≤ 3 * whole m
   planning_most = omega (arith, first_most, sectors_most m.shape.sectors, for_steps_most m address bytes)

@@ -21,9 +21,15 @@ bytes_below m address bytes limit cost q (suc n) =
     bytes_below m address bytes limit cost q n
     + cond (fewest.leq limit (fewest.plus cost (off_from m address bytes q n))) 0 (cond (touched address bytes (q + n)) 0 64)
 
--- those asked for protected bytes that would change: of pages that the write touches, and only where a sector is protected
+-- those asked of n sectors for protected bytes that would change: of the pages of a protected one that the write touches
+abbrev pub for_guarded : Meaning → ℕ → List ℕ → ℕ → ℕ
+for_guarded m address bytes zero = 0
+for_guarded m address bytes (suc n) =
+    for_guarded m address bytes n + cond (protected_at m n) (bytes_on address bytes (n * m.shape.pages) m.shape.pages) 0
+
+-- and of all
 abbrev pub for_barred : Meaning → ℕ → List ℕ → ℕ
-for_barred m address bytes = cond (free (protected_at m) m.shape.sectors) 0 (bytes_on address bytes 0 (m.shape.sectors * m.shape.pages))
+for_barred m address bytes = for_guarded m address bytes m.shape.sectors
 
 -- those asked for the costs of n pages from page q on: once for each that the write touches, and for the others while to erase them
 -- first costs less than to keep them
