@@ -15,7 +15,8 @@ use Rattle.least.specs.Writes as writes
 use Rattle.least.specs.Theorems as theorems
 use Rattle.least.specs.Theorems.{Says, LeastBy}
 use Rattle.planner.specs.Waits.{Polls}
-use Rattle.planner.specs.Looking.{LookedBy, wanted}
+use Rattle.planner.specs.Looking.{LookedBy}
+use Rattle.planner.specs.Wanted.{wanted}
 use Rattle.planner.specs.Running.{Carries, Did, Sends, none as sent_none, more as sent_more}
 use Rattle.planner.proofs.Doings.{did_polls, did_step, did_join, sends_did}
 use Rattle.writing.proofs.Carrying.{did_looked, did_over, polls-idle, sends-idle}
@@ -23,7 +24,7 @@ use Rattle.writing.proofs.Unrefused.{Made, planned-made}
 use Rattle.writing.specs.declared.fault.WriteFault.{WriteFault}
 use Rattle.writing.specs.declared.fault.WriteFault.TheVariants.{Limit, Outside, StillBusy, Protected, StepsShort, DataShort, Abandoned}
 use Rattle.writing.specs.WriteRows.{row}
-use Rattle.writing.specs.Wrote.{Buffers, Left, Filled, LookedOver, plan_over, planned_cycles, Carried, unplanned, written, abandoned, Wrote, no_limit, outside, still-busy, waited}
+use Rattle.writing.specs.Wrote.{Buffers, Left, Filled, LookedOver, plan_over, planned_cycles, Carried, unplanned, written, abandoned, Wrote, no_limit, outside, still_busy, waited}
 use Rattle.calls.specs.declared.call.Refusal.TheVariants.{Write}
 use Rattle.calls.specs.declared.call.Answer.{Answer}
 use Rattle.calls.specs.declared.call.Answer.TheVariants as answers
@@ -283,7 +284,7 @@ module _ {P : Type 0} (part : Ghosts P)
         refused_owed f g (Limit limit) (ap (λ (x : Fence P). x.closed) same) (ap (λ x. (m x).image) same) same left (λ p. absurd (both_ways _ off p.limited)) (refl, off)
     write_owed f g _ (outside on past same left) =
         refused_owed f g (Outside address) (ap (λ (x : Fence P). x.closed) same) (ap (λ x. (m x).image) same) same left (λ p. absurd (omega (arith, past, p.inside))) (refl, on, past)
-    write_owed f g _ (still-busy on inside due p left) =
+    write_owed f g _ (still_busy on inside due p left) =
         refused_owed f g (StillBusy limit) p.made.0 (polls-image limit f g p) p left (λ q. absurd (omega (arith, due, q.waits))) (refl, on, inside, due)
     write_owed f g r (waited {idle = idle} on inside due p says carried) =
         carried_owed f idle g r (record { limited = on; inside = inside; waits = due }) p says carried

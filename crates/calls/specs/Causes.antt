@@ -7,7 +7,7 @@ use Rattle.part.specs.Meaning.{Meaning, protected_at}
 use Rattle.least.specs.Barred.{LowestIs}
 use Rattle.least.specs.Theorems.{LeastBy}
 use Rattle.part.specs.Limit.{allowed}
-use Rattle.planner.specs.Looking.{wanted}
+use Rattle.planner.specs.Wanted.{wanted}
 use Rattle.writing.specs.declared.fault.WriteFault.{WriteFault}
 use Rattle.writing.specs.declared.fault.WriteFault.TheVariants.{Limit, Outside, StillBusy, Protected, StepsShort, DataShort, Abandoned}
 use Rattle.calls.specs.declared.call.Refusal.{Refusal}

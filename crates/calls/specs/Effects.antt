@@ -8,7 +8,8 @@ use Rattle.least.specs.Cost.{spent}
 use Rattle.least.specs.Fewest.{fewest}
 use Rattle.least.specs.Steps.{steps_of, data_of}
 use Rattle.least.specs.Theorems.{LeastBy}
-use Rattle.planner.specs.Looking.{LookedBy, wanted}
+use Rattle.planner.specs.Looking.{LookedBy}
+use Rattle.planner.specs.Wanted.{wanted}
 use Rattle.planner.specs.Waits.{Polls}
 use Rattle.writing.specs.Wrote.{Buffers, Filled, planned_cycles}
 use Rattle.writing.specs.declared.fault.WriteFault.{WriteFault}

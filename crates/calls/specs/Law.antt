@@ -14,7 +14,7 @@ use Rattle.calls.specs.declared.call.Answer.TheVariants.{Done, Written, Refused,
 use Rattle.calls.specs.Refusals.{row, answer_row, came_of}
 use Rattle.calls.specs.Requests.{Request, closing, opening, reading, writing, outcome}
 use Rattle.calls.specs.Reference.{Reference, fed, Holds}
-use Rattle.planner.specs.Looking.{wanted}
+use Rattle.planner.specs.Wanted.{wanted}
 use Rattle.calls.specs.Causes.{Cause, Passes, NothingLeads}
 use Rattle.calls.specs.Effects.{DoneWrite, AbandonedWrite, RefusedWrite}
 

@@ -2,7 +2,7 @@
 use Rattle.std.proofs.Common.{◌≡◌, ℕ, ◌+◌, ◌*◌, ◌<◌, ◌≤◌, Bool, true, false, cond, not, ◌&&◌, leb, ◌⊎◌, List, ◌∷◌, ◌++◌, length, get_or, drop, Some, None, Ok, Err, Option, Result, sym, refl, ap, ◌∙◌, subst, inl, inr, zero-add, arith}
 use lib.Seq.{sets, sets-eq}
 use Rattle.std.proofs.lemmas.List.{append-nil, drop_all}
-use Rattle.std.proofs.lemmas.Bool.{cases_order, le-leb, lt-leb}
+use Rattle.std.proofs.lemmas.Bool.{cases_order, cond-false, cond-true, le-leb, lt-leb}
 use Rattle.memory.specs.Shape.{size}
 use Rattle.memory.specs.Protection.{free}
 use Rattle.memory.specs.Cycle.{Cycle, sector_erase, bulk_erase}
@@ -19,11 +19,12 @@ use Rattle.least.specs.Sectors.{over_sector, erase_cost, sectors_cost, bulk_cost
 use Rattle.least.specs.Plan.{keep_page, erased_page, least_cost, keep_cycles, presets, list_to, pages_of}
 use Rattle.least.specs.Steps.{steps_of, data_of}
 use Rattle.least.specs.Writes.{planned, refused, past_the_end, steps_short, data_short, unless_barred, unless_short, plan_write}
-use Rattle.planner.specs.Looking.{Fitting, wanted}
+use Rattle.planner.specs.Wanted.{Fitting, wanted}
 use Rattle.planner.specs.declared.chosen.Treatment.{Treatment}
 use Rattle.planner.specs.declared.chosen.Treatment.TheVariants as treatment
 use Rattle.planner.specs.declared.chosen.Erasure.{Erasure}
 use Rattle.planner.specs.declared.chosen.Erasure.TheVariants.{All, Sectors}
+use Rattle.planner.specs.Asking.{for_marks, for_pages, for_steps}
 use Rattle.planner.specs.Choice.{Chosen, Erased}
 use Rattle.planner.specs.Lists.{bulk_list, sector_list, sectors_list}
 use Rattle.planner.specs.Sending.{Laid}
@@ -31,6 +32,7 @@ use Rattle.planner.specs.Call.{Handed, plan_call, plan_inside, plan_list, polls_
 use Rattle.least.proofs.Laws.{fewest_lawful}
 use Rattle.least.proofs.Price.{plan-spent}
 use Rattle.least.proofs.Stepped.{steps_are_cycles}
+use Rattle.planner.proofs.Askings.{marks_same}
 use Rattle.planner.proofs.Sendings.{length-steps}
 use Rattle.planner.proofs.Totals.{list_same, list_flat}
 use Rattle.least.proofs.Unreached.{lowest_found}
@@ -111,6 +113,17 @@ module _ (m : Meaning) (S : Sound m) (address : ℕ) (bytes : List ℕ) where
         sectors_list_lem marks x
         ∙ (unless_both (free (protected_at m) m.shape.sectors) (fewest.leq (sectors_cost fewest m.shape (keep_at 64) (erased_at 64)) (bulk_cost fewest m.shape (erased_at 64))) (by_sectors_at 64) (bulk_at 64) x.0
         ∙ plan_at_lem)
+
+    -- what the steps of the choice ask for is what those of the plan do
+    pub bulk_asks : c.erasure ≡ All → for_pages address bytes treatment.Erased 0 (m.shape.sectors * m.shape.pages) ≡ for_steps m address bytes
+    bulk_asks e = sym (cond-true _ _ _ (erased_by All e))
+
+    pub marks_ask :
+        (marks : List Treatment) → c.erasure ≡ Sectors marks
+        → for_marks m address bytes (λ k. get_or marks k treatment.Kept) m.shape.sectors ≡ for_steps m address bytes
+    marks_ask marks e =
+        let x = erased_by (Sectors marks) e in
+        marks_same m address bytes _ _ m.shape.sectors x.1 ∙ sym (cond-false _ _ _ x.0)
 
     pub cost_is : c.cost ≡ least_cost fewest m.shape (protected_at m) m.image (wanted m address bytes)
     cost_is =

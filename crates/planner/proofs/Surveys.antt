@@ -10,7 +10,7 @@ use Rattle.least.specs.Fewest.{fewest}
 use Rattle.least.specs.Window.{window}
 use Rattle.least.specs.Plan.{window_cost, lowers, sending, keep_cycles}
 use Rattle.least.specs.Sectors.{bulk_cost}
-use Rattle.planner.specs.Looking.{Fitting, Readable, touched, wanted}
+use Rattle.planner.specs.Wanted.{Fitting, Readable, touched, wanted}
 use Rattle.planner.specs.Survey.{below, erased_from, kept, off_from, on_all, on_from, preset, preset_off, preset_on}
 use Rattle.least.proofs.Laws.{fewest_lawful}
 use Rattle.least.proofs.Sums.{plus_none}

@@ -11,7 +11,7 @@ use Rattle.planner.specs.declared.fault.PlanFault.TheVariants.{Outside, Busy, Pr
 use Rattle.least.specs.declared.step.Step.{Step}
 use Rattle.least.specs.Fewest.{fewest}
 use Rattle.least.specs.Plan.{plan}
-use Rattle.planner.specs.Looking.{wanted}
+use Rattle.planner.specs.Wanted.{wanted}
 use Rattle.least.specs.Writes.{Answer, refused, planned, past_the_end, protected_at, steps_short, data_short, plan_to}
 
 -- polls are due, and planning makes none

@@ -1,9 +1,10 @@
 pub mod Waits
 pub mod RunRows
 pub mod Running
-pub mod Sent
+pub mod SameData
 pub mod Overlay
 pub mod Looking
+pub mod Wanted
 pub mod Asking
 pub mod Sending
 pub mod Survey

@@ -5,7 +5,7 @@ use Rattle.part.specs.Meaning.{Meaning}
 use Rattle.least.specs.Plan.{keep_cycles, presets, list_to}
 use Rattle.planner.specs.declared.chosen.Treatment.{Treatment}
 use Rattle.planner.specs.declared.chosen.Treatment.TheVariants.{Kept, Erased}
-use Rattle.planner.specs.Looking.{wanted}
+use Rattle.planner.specs.Wanted.{wanted}
 
 module _ (m : Meaning) (address : ℕ) (bytes : List ℕ) where
   -- page q as it stands, and once erased

@@ -8,7 +8,7 @@ use Rattle.least.specs.Plan.{keep_page, erased_page}
 use Rattle.least.specs.Sectors.{over_sector, erase_cost, sectors_cost, bulk_cost}
 use Rattle.planner.specs.declared.chosen.Treatment.{Treatment}
 use Rattle.planner.specs.declared.chosen.Treatment.TheVariants.{Kept, Erased}
-use Rattle.planner.specs.Looking.{touched, wanted}
+use Rattle.planner.specs.Wanted.{touched, wanted}
 
 -- no more than n pages cost
 abbrev pub UpTo : ℕ → ℕ × ℕ → Type 0

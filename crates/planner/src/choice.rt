@@ -4,8 +4,9 @@ ghost use Rattle.memory.specs.Protection.{free};
 ghost use Rattle.part.specs.Meaning.{protected_at};
 ghost use Rattle.least.specs.Fewest.{fewest};
 ghost use Rattle.least.specs.Sectors.{bulk_cost, over_sector, sector_cost};
-ghost use Rattle.planner.specs.Asking.{for_bulk, whole};
-ghost use Rattle.planner.specs.Looking.{Fitting, LookedBy};
+ghost use Rattle.planner.specs.Asking.{bytes_below, for_bulk, for_costs, for_sectors};
+ghost use Rattle.planner.specs.Looking.{LookedBy};
+ghost use Rattle.planner.specs.Wanted.{Fitting};
 ghost use Rattle.planner.specs.Survey.{UpTo, below, by_sectors, kept, on_all, preset, preset_on, sector_treatment};
 ghost use Rattle.planner.specs.declared.chosen.Treatment.TheVariants.{Kept};
 ghost use Rattle.planner.specs.Choice.{Chosen};
@@ -27,7 +28,7 @@ struct Sector {
 
 fn sector_cost<P: Part>(part: &mut P, write: Write<'_>, k: usize) -> Sector
     requires { Fitting (P.Part.meaning part.old) write.address write.bytes.now × (k < (P.Part.meaning part.old).shape.sectors) }
-    ensures looked { LookedBy P.Part (64 * (P.Part.meaning part.old).shape.pages) part.old part.new }
+    ensures looked { LookedBy P.Part (for_costs (P.Part.meaning part.old) write.entry.address write.entry.bytes.now (k * (P.Part.meaning part.old).shape.pages) (P.Part.meaning part.old).shape.pages) part.old part.new }
     ensures bound { UpTo 4097 result.costs.cost × UpTo 2048 result.costs.presets }
     ensures treatment { result.treatment ≡ sector_treatment (P.Part.meaning part.old) write.entry.address write.entry.bytes.now k }
     ensures value { result.costs.cost ≡ sector_cost fewest (P.Part.meaning part.old).shape (kept (P.Part.meaning part.old) write.entry.address write.entry.bytes.now) (preset (P.Part.meaning part.old) write.entry.address write.entry.bytes.now) k }
@@ -51,7 +52,7 @@ fn sector_cost<P: Part>(part: &mut P, write: Write<'_>, k: usize) -> Sector
 // What the sectors cost together, and the presets of all touched pages. Marks each sector.
 fn sector_costs<P: Part>(part: &mut P, write: Write<'_>, marks: &mut [Treatment]) -> Costs
     requires { Fitting (P.Part.meaning part.old) write.address write.bytes.now × (length marks.old ≡ (P.Part.meaning part.old).shape.sectors) }
-    ensures looked { LookedBy P.Part (whole (P.Part.meaning part.old)) part.old part.new }
+    ensures looked { LookedBy P.Part (for_sectors (P.Part.meaning part.old) write.entry.address write.entry.bytes.now (P.Part.meaning part.old).shape.sectors) part.old part.new }
     ensures bound { UpTo 262144 result.presets }
     ensures value { result.cost ≡ by_sectors (P.Part.meaning part.old) write.entry.address write.entry.bytes.now }
     ensures touched { result.presets ≡ on_all (P.Part.meaning part.old) write.entry.address write.entry.bytes.now }
@@ -76,7 +77,7 @@ fn is_free<P: Part>(part: &P) -> bool
 fn bulk_cost<P: Part>(part: &mut P, write: Write<'_>, presets: Cost, limit: Cost) -> Option<Cost>
     requires fitting { Fitting (P.Part.meaning part.old) write.address write.bytes.now }
     requires presets_bound { UpTo 262144 presets }
-    ensures looked { LookedBy P.Part (for_bulk (P.Part.meaning part.old)) part.old part.new }
+    ensures looked { LookedBy P.Part (if free (protected_at (P.Part.meaning part.old)) (P.Part.meaning part.old).shape.sectors then bytes_below (P.Part.meaning part.old) write.entry.address write.entry.bytes.now limit (fewest.plus (1, 0) presets) 0 ((P.Part.meaning part.old).shape.sectors * (P.Part.meaning part.old).shape.pages) else 0) part.old part.new }
     ensures value { presets ≡ on_all (P.Part.meaning part.old) write.entry.address write.entry.bytes.now → result ≡ (if free (protected_at (P.Part.meaning part.old)) (P.Part.meaning part.old).shape.sectors then below limit (bulk_cost fewest (P.Part.meaning part.old).shape (preset (P.Part.meaning part.old) write.entry.address write.entry.bytes.now)) else None) }
 {
     if !is_free(part) {
@@ -88,7 +89,7 @@ fn bulk_cost<P: Part>(part: &mut P, write: Write<'_>, presets: Cost, limit: Cost
 
 pub(crate) fn choose<P: Part>(part: &mut P, write: Write<'_>) -> Choice
     requires { Fitting (P.Part.meaning part.old) write.address write.bytes.now }
-    ensures looked { LookedBy P.Part (whole (P.Part.meaning part.old) + for_bulk (P.Part.meaning part.old)) part.old part.new }
+    ensures looked { LookedBy P.Part (for_sectors (P.Part.meaning part.old) write.entry.address write.entry.bytes.now (P.Part.meaning part.old).shape.sectors + for_bulk (P.Part.meaning part.old) write.entry.address write.entry.bytes.now) part.old part.new }
     ensures value { Chosen (P.Part.meaning part.old) write.entry.address write.entry.bytes.now result }
 {
     // the part's sectors are the first of them

@@ -14,7 +14,7 @@ pub enum Treatment {
 #[derive(Clone, Copy)]
 pub enum Erasure {
     All,
-    // a mark for each sector that a part can have: the planner has no heap, and a part says only when it runs how many it has
+    // a mark for each sector that a part can have: the planner has no heap, and how many sectors a part has is known only at run time
     Sectors([Treatment; MOST_SECTORS]),
 }
 

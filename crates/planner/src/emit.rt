@@ -1,11 +1,13 @@
 // The cycles of a choice put on a sheet. Part, write and sheet stay three parameters: each function says of each of them what it
 // leaves, which a struct of the three would have to say again.
-ghost use Rattle.std.specs.Prelude.{◌≡◌, ◌+◌, ◌*◌, ◌<◌, if◌then◌else◌};
+ghost use Rattle.std.specs.Prelude.{◌≡◌, ◌+◌, ◌*◌, ◌<◌, if◌then◌else◌, slice_index_or};
 ghost use Rattle.memory.specs.declared.kind.Kind.TheVariants.{Program, Alter};
 ghost use Rattle.least.specs.Plan.{lowers};
-ghost use Rattle.planner.specs.Asking.{whole};
-ghost use Rattle.planner.specs.Looking.{Fitting, LookedBy, PagesIn, Readable};
-ghost use Rattle.planner.specs.Sending.{Laid, Sent};
+ghost use Rattle.planner.specs.declared.chosen.Treatment.TheVariants.{Erased, Kept};
+ghost use Rattle.planner.specs.Asking.{for_marks, for_page, for_pages, for_steps};
+ghost use Rattle.planner.specs.Looking.{LookedBy};
+ghost use Rattle.planner.specs.Wanted.{Fitting, PagesIn, Readable};
+ghost use Rattle.planner.specs.Sending.{Laid, Sent, full};
 ghost use Rattle.planner.specs.Lists.{bulk_list, page_list, pages_list, sector_list, sectors_list};
 ghost use Rattle.planner.specs.Choice.{Chosen};
 ghost use Rattle.planner.specs.Call.{plan_list};
@@ -42,7 +44,7 @@ fn put_page<P: Part>(
     sheet: &mut Sheet<'_>,
 )
     requires { Fitting (P.Part.meaning part.old) write.address write.bytes.now × Readable (P.Part.meaning part.old) q }
-    ensures looked { LookedBy P.Part 64 part.old part.new }
+    ensures looked { LookedBy P.Part (if full sheet.old then 0 else for_page write.entry.address write.entry.bytes.now treatment q) part.old part.new }
     ensures sent { Sent (page_list (P.Part.meaning part.old) write.entry.address write.entry.bytes.now treatment q) sheet.old sheet.new }
 {
     if sheet.is_full() {
@@ -74,7 +76,7 @@ fn put_pages<P: Part>(
 )
     requires fitting { Fitting (P.Part.meaning part.old) write.address write.bytes.now }
     requires count_bound { PagesIn (P.Part.meaning part.old) first count }
-    ensures looked { LookedBy P.Part (64 * count) part.old part.new }
+    ensures looked { LookedBy P.Part (for_pages write.entry.address write.entry.bytes.now treatment first count) part.old part.new }
     ensures sent { Sent (pages_list (P.Part.meaning part.old) write.entry.address write.entry.bytes.now treatment first count) sheet.old sheet.new }
 {
     for q in first..first + count {
@@ -91,7 +93,7 @@ fn put_sector<P: Part>(
     sheet: &mut Sheet<'_>,
 )
     requires { Fitting (P.Part.meaning part.old) write.address write.bytes.now × (k < (P.Part.meaning part.old).shape.sectors) }
-    ensures looked { LookedBy P.Part (64 * (P.Part.meaning part.old).shape.pages) part.old part.new }
+    ensures looked { LookedBy P.Part (for_pages write.entry.address write.entry.bytes.now treatment (k * (P.Part.meaning part.old).shape.pages) (P.Part.meaning part.old).shape.pages) part.old part.new }
     ensures sent { Sent (sector_list (P.Part.meaning part.old) write.entry.address write.entry.bytes.now treatment k) sheet.old sheet.new }
 {
     let count = part.pages();
@@ -110,7 +112,7 @@ fn put_sectors<P: Part>(
     sheet: &mut Sheet<'_>,
 )
     requires { Fitting (P.Part.meaning part.old) write.address write.bytes.now }
-    ensures looked { LookedBy P.Part (whole (P.Part.meaning part.old)) part.old part.new }
+    ensures looked { LookedBy P.Part (for_marks (P.Part.meaning part.old) write.entry.address write.entry.bytes.now (λ k. slice_index_or marks.now k Kept) (P.Part.meaning part.old).shape.sectors) part.old part.new }
     ensures sent { Sent (sectors_list (P.Part.meaning part.old) write.entry.address write.entry.bytes.now marks.now) sheet.old sheet.new }
 {
     let sectors = part.sectors();
@@ -122,7 +124,7 @@ fn put_sectors<P: Part>(
 // All, erased first.
 fn put_bulk<P: Part>(part: &mut P, write: Write<'_>, sheet: &mut Sheet<'_>)
     requires { Fitting (P.Part.meaning part.old) write.address write.bytes.now }
-    ensures looked { LookedBy P.Part (whole (P.Part.meaning part.old)) part.old part.new }
+    ensures looked { LookedBy P.Part (for_pages write.entry.address write.entry.bytes.now Erased 0 ((P.Part.meaning part.old).shape.sectors * (P.Part.meaning part.old).shape.pages)) part.old part.new }
     ensures sent { Sent (bulk_list (P.Part.meaning part.old) write.entry.address write.entry.bytes.now) sheet.old sheet.new }
 {
     let count = part.sectors() * part.pages();
@@ -134,7 +136,7 @@ fn put_bulk<P: Part>(part: &mut P, write: Write<'_>, sheet: &mut Sheet<'_>)
 fn put_choice<P: Part>(part: &mut P, write: Write<'_>, choice: &Choice, sheet: &mut Sheet<'_>)
     requires fitting { Fitting (P.Part.meaning part.old) write.address write.bytes.now }
     requires chosen { Chosen (P.Part.meaning part.old) write.address write.bytes.now choice.now }
-    ensures looked { LookedBy P.Part (whole (P.Part.meaning part.old)) part.old part.new }
+    ensures looked { LookedBy P.Part (for_steps (P.Part.meaning part.old) write.entry.address write.entry.bytes.now) part.old part.new }
     ensures sent { Sent (plan_list (P.Part.meaning part.old) write.entry.address write.entry.bytes.now) sheet.old sheet.new }
 {
     match &choice.erasure {
@@ -153,7 +155,7 @@ pub(crate) fn put_plan<P: Part>(
 )
     requires fitting { Fitting (P.Part.meaning part.old) write.address write.bytes.now }
     requires chosen { Chosen (P.Part.meaning part.old) write.address write.bytes.now choice.now }
-    ensures looked { LookedBy P.Part (whole (P.Part.meaning part.old)) part.old part.new }
+    ensures looked { LookedBy P.Part (for_steps (P.Part.meaning part.old) write.entry.address write.entry.bytes.now) part.old part.new }
     ensures laid { Laid (plan_list (P.Part.meaning part.old) write.entry.address write.entry.bytes.now) steps.old steps.new «data».old «data».new }
 {
     let mut sheet = Sheet::new(steps, data);

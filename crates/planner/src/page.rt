@@ -11,10 +11,10 @@ use memory::model::PAGE_BYTES;
 
 pub(crate) type Page = [u8; PAGE_BYTES];
 
-// Once erased.
+// A page once erased.
 pub(crate) const BLANK: Page = [0xFF; PAGE_BYTES];
 
-// The cost of one page cycle at most.
+// What it costs to make one page the other: one page cycle at most.
 pub(crate) fn page_cost(old: &Page, new: &Page) -> Cost
     ensures value { result ≡ window_cost fewest (window 64 old.now new.now) }
     ensures bound { UpTo 1 result }

@@ -2,8 +2,9 @@
 // other page is read unless an erase may still be lower.
 ghost use Rattle.std.specs.Prelude.{◌≡◌, ℕ, ◌+◌, ◌^◌, ◌<◌, IfSome, if◌then◌else◌};
 ghost use Rattle.least.specs.Fewest.{fewest};
-ghost use Rattle.planner.specs.Asking.{bytes_off, bytes_on};
-ghost use Rattle.planner.specs.Looking.{Fitting, LookedBy, PagesIn, Readable, touched};
+ghost use Rattle.planner.specs.Asking.{bytes_below, bytes_on};
+ghost use Rattle.planner.specs.Looking.{LookedBy};
+ghost use Rattle.planner.specs.Wanted.{Fitting, PagesIn, Readable, touched};
 ghost use Rattle.planner.specs.Survey.{UpTo, below, erased_from, kept, kept_from, on_from, preset_off, preset_on};
 
 use crate::look::{both_pages, read_page};
@@ -13,7 +14,7 @@ use least::cost::{Cost, ERASE, NOTHING, added, at_most};
 use part::part::Part;
 use std::ops::AddAssign;
 
-// Both together. No count here comes near the largest number, so `added` stops at none.
+// The two added. No count here comes near the largest number, so none is cut off.
 fn plus(a: Cost, b: Cost) -> Cost
     requires { (a.0 + b.0 < 2 ^ 64) × (a.1 + b.1 < 2 ^ 64) }
     ensures { result ≡ fewest.plus a b }
@@ -113,7 +114,7 @@ pub(crate) fn erase_costs<P: Part>(
     requires fitting { Fitting (P.Part.meaning part.old) write.address write.bytes.now }
     requires count_bound { PagesIn (P.Part.meaning part.old) first count }
     requires presets_bound { UpTo 262144 presets }
-    ensures looked { LookedBy P.Part (bytes_off write.entry.address write.entry.bytes.now first count) part.old part.new }
+    ensures looked { LookedBy P.Part (bytes_below (P.Part.meaning part.old) write.entry.address write.entry.bytes.now limit (fewest.plus (1, 0) presets) first count) part.old part.new }
     ensures bound { (n : ℕ) → UpTo n presets → IfSome result (UpTo (1 + n + count)) }
     ensures value { presets ≡ on_from (P.Part.meaning part.old) write.entry.address write.entry.bytes.now first count → result ≡ below limit (erased_from (P.Part.meaning part.old) write.entry.address write.entry.bytes.now first count) }
 {

@@ -1,2 +1,1 @@
 pub mod CountingPartLemmas
-pub mod Costs

@@ -3,9 +3,8 @@ ghost use Rattle.std.specs.Prelude.{◌≡◌, ◌+◌, ◌*◌, ◌≤◌, min,
 ghost use Rattle.memory.specs.Shape.{size};
 ghost use Rattle.part.specs.Meaning.{Event, cycles, polls};
 ghost use Rattle.least.specs.Fewest.{largest};
-ghost use Rattle.planner.specs.Call.{plan_call};
+ghost use Rattle.planner.specs.Call.{Handed, plan_call};
 ghost use Rattle.planner.specs.Looking.{asked_bytes};
-ghost use Rattle.reads.specs.Costs.{cost_of};
 ghost use Rattle.reads.specs.CountingPartLemmas.{stayed, joined};
 ghost use Rattle.planner.proofs.Lookings.{asked_join};
 ghost use Rattle.std.proofs.Common.{rules};
@@ -16,6 +15,7 @@ use memory::geometry::Geometry;
 use memory::kind::Kind;
 use part::fault::PartFault;
 use part::part::Part;
+use planner::fault::PlanFault;
 use planner::plan::plan;
 
 #[derive(Drop)]
@@ -68,10 +68,10 @@ impl<P: Part> Part for Counting<P> {
     }
 }
 
-// What a plan costs, if there is one, and how many bytes were asked for it.
+// What planning answers, and how many bytes were asked for it.
 #[derive(Clone, Copy, PartialEq, Eq, Debug)]
 pub(crate) struct Asked {
-    pub(crate) cost: Option<Cost>,
+    pub(crate) plan: Result<Cost, PlanFault>,
     pub(crate) bytes: usize,
 }
 
@@ -85,12 +85,13 @@ pub(crate) fn plan_counted<P: Part>(
 ) -> Asked
     ensures asked { (es : List Event) × P.Part.trace part.old.inner part.new.inner es × (cycles es ≡ []) × (polls es ≡ 0) × (result.bytes ≡ asked_bytes es) }
     ensures most { result.bytes ≤ 3 * size (P.Part.meaning part.old.inner).shape }
-    ensures cost { result.cost ≡ cost_of (plan_call (P.Part.meaning part.old.inner) address bytes.now (length steps.old) (length «data».old)) }
+    ensures same { P.Part.meaning part.new.inner ≡ P.Part.meaning part.old.inner }
+    ensures answer { Handed (plan_call (P.Part.meaning part.old.inner) address bytes.now (length steps.old) (length «data».old)) result.plan steps.old steps.new «data».old «data».new }
 {
     part.asked = 0;
-    let cost = plan(part, address, bytes, steps, data).ok();
+    let plan = plan(part, address, bytes, steps, data);
     Asked {
-        cost,
+        plan,
         bytes: part.asked,
     }
 }

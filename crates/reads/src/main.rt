@@ -1,6 +1,8 @@
 // How many bytes planning asks of a memory: of a 128Mb plain image, and of small memories where it has to read most.
 #![tactic(auto)]
 
+ghost use Rattle.std.specs.Prelude.{◌≡◌, ◌*◌, ◌≤◌, IfOk, nat_le};
+
 mod adverse;
 mod counting;
 
@@ -143,12 +145,12 @@ fn show(rt: &HostRuntime, case: Case) -> anyhow::Result<()> {
         bytes: vec![in heap; write.value; write.length]?,
     };
     let geometry = geometry(MOST_SECTORS, MOST_PAGES)?;
-    let Asked { cost, bytes: asked } = ask(heap, geometry, trial)?;
-    match cost {
-        Some((cycles, sent)) => println!(rt;
+    let Asked { plan, bytes: asked } = ask(heap, geometry, trial)?;
+    match plan {
+        Ok((cycles, sent)) => println!(rt;
             "{what}: {asked} bytes asked for a plan of {cycles} cycles, {sent} bytes"
         )?,
-        None => println!(rt; "{what}: {asked} bytes asked, and no plan")?,
+        Err(_) => println!(rt; "{what}: {asked} bytes asked, and no plan")?,
     }
     Ok(())
 }
@@ -157,25 +159,43 @@ fn geometry(sectors: usize, pages: usize) -> anyhow::Result<Geometry> {
     Geometry::new(sectors, pages).context("no memory is divided so")
 }
 
-// The most bytes that were asked of a memory.
-fn worst(heap: Global, geometry: Geometry) -> anyhow::Result<usize> {
-    let mut most = 0;
+// Plans over a memory: how many were made, and the most bytes that one of them asked of it.
+#[derive(Clone, Copy, PartialEq, Eq, Debug)]
+struct Plans {
+    made: usize,
+    most: usize,
+}
+
+fn worst(heap: Global, geometry: Geometry) -> anyhow::Result<Plans>
+    ensures { IfOk result (λ plans. plans.made ≡ TRIED) }
+{
+    let mut plans = Plans { made: 0, most: 0 };
     // not a chain: what cannot be allocated ends it by `?`
     for number in 0..TRIED {
         let trial = make(heap, geometry.size(), number)?;
-        most = most.max(ask(heap, geometry, trial)?.bytes);
+        let asked = ask(heap, geometry, trial)?.bytes;
+        plans.made += 1;
+        plans.most = plans.most.max(asked);
     }
-    Ok(most)
+    Ok(plans)
+}
+
+// Whether no more was asked than three times a memory's bytes.
+fn is_within_three(asked: usize, size: usize) -> bool
+    requires { size ≤ BYTES }
+    ensures { result ≡ nat_le asked (3 * size) }
+{
+    asked <= 3 * size
 }
 
 fn show_worst(rt: &HostRuntime, geometry: Geometry) -> anyhow::Result<()> {
-    let most = worst(rt.alloc(), geometry)?;
+    let Plans { made, most } = worst(rt.alloc(), geometry)?;
     let sectors = geometry.sectors;
     let pages = geometry.pages;
     let size = geometry.size();
-    let within = most <= 3 * size;
+    let within = is_within_three(most, size);
     println!(rt;
-        "sectors {sectors} of pages {pages}, {size} bytes: at most {most} asked in {TRIED} plans, within three times: {within}"
+        "sectors {sectors} of pages {pages}, {size} bytes: at most {most} asked in {made} plans, within three times: {within}"
     )?;
     Ok(())
 }

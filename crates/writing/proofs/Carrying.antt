@@ -181,7 +181,7 @@ module _ {P : Type 0} (part : Ghosts P)
 
         pub carried_run : (to : P) (r : Result ℕ RunFault) → Ran part fresh limit list mid to r → Ended a to cost r
         carried_run to _ (running.no_limit off same) = absurd (both_ways _ off on')
-        carried_run to _ (running.still-busy on due wait) = absurd (omega (arith, due, idle_mid))
+        carried_run to _ (running.still_busy on due wait) = absurd (omega (arith, due, idle_mid))
         carried_run to _ (running.ran {a = x} on due wait sends) =
             wrote.written cost list fresh plan.is plan.filled (looked_on _ a mid x idle_mid look wait) sends
         carried_run to _ (running.refused {a = x} {b = y} on due wait k s fault lt split sends idle turned) =

@@ -75,7 +75,7 @@ module _ {P : Type 0} (part : Ghosts P) where
       outside : allowed limit ≡ true → size (part.meaning from).shape < address + length bytes → to ≡ from → Left b
           → Wrote from to (Err (Outside address))
       -- the limit's polls were made, and more were due
-      still-busy : allowed limit ≡ true → address + length bytes ≤ size (part.meaning from).shape → limit < (part.meaning from).due
+      still_busy : allowed limit ≡ true → address + length bytes ≤ size (part.meaning from).shape → limit < (part.meaning from).due
           → Polls part limit from to → Left b → Wrote from to (Err (StillBusy limit))
       -- else what was due was waited for
       waited : {idle : P} {r : Result (ℕ × ℕ) WriteFault} → allowed limit ≡ true → address + length bytes ≤ size (part.meaning from).shape

@@ -1,8 +1,8 @@
-use Rattle.std.proofs.Common.{◌≡◌, ◌*◌, ◌≤◌, sym, ap, ◌∙◌, subst, ap₂, arith}
+use Rattle.std.proofs.Common.{◌≡◌, ℕ, ◌*◌, sym, ap, ◌∙◌, ap₂, le_of_eq}
 use Rattle.std.proofs.lemmas.Bool.{cond-true}
-use Rattle.planner.specs.Asking.{bytes_off}
+use Rattle.least.specs.Fewest.{fewest}
+use Rattle.planner.specs.Asking.{bytes_below}
 use Rattle.planner.specs.Survey.{below, erased_from, on_from}
-use Rattle.planner.proofs.Askings.{on_and_off}
 use Rattle.planner.proofs.Lookings.{looked_most}
 use Rattle.planner.proofs.Surveys.{bulk_flat, on_flat}
 use Rattle.planner.proofs.choice.bulk_cost.Goals as goal
@@ -14,8 +14,8 @@ returns-clause-looked g c =
     let b = c.args.write.bytes.now in
     let n = c.sectors.result * c.pages.result in
     let e : n ≡ m.shape.sectors * m.shape.pages = ap₂ (λ x y. x * y) c.sectors.ensures c.pages.ensures in
-    looked_most g.P.Part _ _ _ _ c.erase_costs.ensures.looked
-    (subst (λ x. bytes_off a b 0 n ≤ x) (sym (cond-true _ _ _ (sym c.if-not-is_free.ensures))) (omega (arith, on_and_off a b 0 n, e)))
+    let asked : ℕ → ℕ = λ x. bytes_below m a b c.args.limit (fewest.plus (1, 0) c.args.presets) 0 x in
+    looked_most g.P.Part _ _ _ _ c.erase_costs.ensures.looked (le_of_eq (ap asked e ∙ sym (cond-true _ _ _ (sym c.if-not-is_free.ensures))))
 
 pub returns-clause-value : goal.returns-clause-value
 returns-clause-value g c =

@@ -1,11 +1,13 @@
-use Rattle.std.proofs.Common.{◌≡◌, ℕ, ◌+◌, ◌<◌, List, length, get_or, set, sym, ap, ◌∙◌, ap₂, ⊎_elim, arith, get_or-set_other, get_or-set_same, add-mul}
+use Rattle.std.proofs.Common.{◌≡◌, ℕ, ◌+◌, ◌*◌, ◌<◌, List, length, get_or, set, sym, ap, ◌∙◌, ap₂, ⊎_elim, arith, get_or-set_other, get_or-set_same, le_of_eq}
 use Rattle.std.proofs.lemmas.Bool.{cases_eq}
 use Rattle.part.specs.Meaning.{Meaning}
 use Rattle.planner.specs.declared.chosen.Treatment.{Treatment}
 use Rattle.planner.specs.declared.chosen.Treatment.TheVariants.{Kept}
 use Rattle.least.specs.Fewest.{fewest}
 use Rattle.least.specs.Sectors.{over_sector, sector_cost}
+use Rattle.planner.specs.Asking.{for_costs, for_sectors}
 use Rattle.planner.specs.Survey.{kept, preset, preset_on, sector_treatment}
+use Rattle.planner.proofs.Askings.{sectors_more}
 use Rattle.planner.proofs.Lookings.{looked_join}
 use Rattle.planner.proofs.Totals.{parts, sum_more}
 use Rattle.planner.proofs.choice.sector_costs.Goals as goal
@@ -29,7 +31,9 @@ loop-k-preserved g c =
     let few = c.requires.0.sound.few in
     let cost = parts _ _ _ c.add_assign.ensures.after.0 in
     let presets = parts _ _ _ c.add_assign.ensures.after.1 in (
-      looked_join g.P.Part g.met.P.Part.joins _ _ _ _ _ _ inv.0 sector.looked (omega (arith, add-mul k 1 m.shape.pages, ap (λ (x : Meaning). x.shape.pages) inv.0.same)),
+      looked_join g.P.Part g.met.P.Part.joins _ _ _ _ _ _ inv.0 sector.looked
+          (le_of_eq
+          (ap (λ (x : Meaning). for_sectors m a b k + for_costs x a b (k * x.shape.pages) x.shape.pages) inv.0.same ∙ sym (sectors_more m a b k))),
       (omega (arith, inv.1, sector.bound, cost.0), omega (arith, inv.1, sector.bound, cost.1)),
       (omega (arith, inv.2, sector.bound, presets.0), omega (arith, inv.2, sector.bound, presets.1)),
       c.add_assign.ensures.after.0

@@ -1,21 +1,31 @@
-use Rattle.std.proofs.Common.{◌≡◌, ℕ, ◌+◌, ◌-◌, List, sym, ap, ◌∙◌, subst, ap₂, arith, le_of_eq}
+use Rattle.std.proofs.Common.{◌≡◌, ℕ, ◌+◌, ◌-◌, ◌≤◌, List, sym, ap, ◌∙◌, subst, ap₂, arith, le_of_eq}
 use Rattle.std.proofs.lemmas.Bool.{cond-true, cond-false}
 use Rattle.part.specs.Meaning.{Meaning}
 use Rattle.least.specs.Cost.{sum_to}
 use Rattle.least.specs.Fewest.{fewest}
+use Rattle.planner.specs.Asking.{bytes_below}
 use Rattle.planner.specs.Survey.{below, preset_off, off_from, on_from, erased_from}
 use Rattle.least.proofs.Laws.{fewest_lawful}
 use Rattle.least.proofs.Sums.{Le}
-use Rattle.planner.proofs.Askings.{off_front, off_next}
+use Rattle.planner.proofs.Askings.{below_front, below_next}
 use Rattle.planner.proofs.Lookings.{looked_join, looked_most}
 use Rattle.planner.proofs.Surveys.{erased_is}
 use Rattle.planner.proofs.Totals.{parts, sum_next, sum-front}
 use Rattle.planner.proofs.survey.erase_costs.Goals as goal
 
+-- no more was asked for than if the look had gone on
+within :
+    (m : Meaning) (a : ℕ) (b : List ℕ) (limit start cost : ℕ × ℕ) (first count j : ℕ) → start ≡ cost → j ≤ count
+    → bytes_below m a b limit start first j ≤ bytes_below m a b limit cost first count
+within m a b limit start cost first count j e h =
+    subst (λ (x : ℕ × ℕ). bytes_below m a b limit start first j ≤ bytes_below m a b limit x first count) e
+    (below_front m a b limit start first count j h)
+
 pub returns-then-at_most-clause-looked : goal.returns-then-at_most-clause-looked
 returns-then-at_most-clause-looked g c =
     looked_most g.P.Part _ _ _ _ c.loop-q.invariant.0
-    (off_front c.args.write.address c.args.write.bytes.now c.args.first c.args.count (c.loop-q.q - c.args.first) (omega arith))
+    (within (g.P.Part.meaning c.args.part.now) c.args.write.address c.args.write.bytes.now c.args.limit _ _ c.args.first c.args.count
+    (c.loop-q.q - c.args.first) c.plus-cost.ensures (omega arith))
 
 pub returns-then-at_most-clause-value : goal.returns-then-at_most-clause-value
 returns-then-at_most-clause-value g c =
@@ -44,7 +54,8 @@ loop-q-preserved g c =
     let start : ℕ × ℕ = c.plus-cost.result in
     let f : ℕ → ℕ × ℕ = λ i. preset_off m a b (c.args.first + i) in
     let sum = parts _ _ _ c.plus-cost-in-loop-q.ensures in (
-      looked_join g.P.Part g.met.P.Part.joins _ _ _ _ _ _ inv.0 page.looked (le_of_eq (sym (off_next a b c.args.first c.loop-q.q (omega arith)))),
+      looked_join g.P.Part g.met.P.Part.joins _ _ _ _ _ _ inv.0 page.looked
+          (le_of_eq (sym (below_next m a b c.args.limit start c.args.first c.loop-q.q (omega arith) (ap (λ (x : ℕ × ℕ). fewest.leq c.args.limit x) (sym inv.3) ∙ sym c.if-at_most.ensures)))),
       omega (arith, inv.1, page.bound, sum.0),
       omega (arith, inv.2, page.bound, sum.1),
       c.plus-cost-in-loop-q.ensures
@@ -61,6 +72,18 @@ ended :
     → cost ≡ erased_from m a b first count
 ended m a b first count j presets cost d t e =
     t ∙ (ap (λ n. fewest.plus (fewest.plus (1, 0) presets) (off_from m a b first n)) d ∙ erased_is m a b first count presets e)
+
+pub returns-then-at_most-2-clause-looked : goal.returns-then-at_most-2-clause-looked
+returns-then-at_most-2-clause-looked g c =
+    looked_most g.P.Part _ _ _ _ c.loop-q.invariant.0
+    (within (g.P.Part.meaning c.args.part.now) c.args.write.address c.args.write.bytes.now c.args.limit _ _ c.args.first c.args.count
+    (c.loop-q.q - c.args.first) c.plus-cost.ensures (omega arith))
+
+pub returns-else-at_most-2-clause-looked : goal.returns-else-at_most-2-clause-looked
+returns-else-at_most-2-clause-looked g c =
+    looked_most g.P.Part _ _ _ _ c.loop-q.invariant.0
+    (within (g.P.Part.meaning c.args.part.now) c.args.write.address c.args.write.bytes.now c.args.limit _ _ c.args.first c.args.count
+    (c.loop-q.q - c.args.first) c.plus-cost.ensures (omega arith))
 
 pub returns-then-at_most-2-clause-value : goal.returns-then-at_most-2-clause-value
 returns-then-at_most-2-clause-value g c =

@@ -3,7 +3,7 @@ use Rattle.std.proofs.lemmas.Bool.Decides.{nat_tests}
 use Rattle.part.specs.Meaning.{protected_at}
 use Rattle.least.proofs.Answered.{writes_answered}
 use Rattle.planner.proofs.Waiting.{polled_out, polled-short}
-use Rattle.writing.specs.Wrote.{no_limit, outside, still-busy, waited}
+use Rattle.writing.specs.Wrote.{no_limit, outside, still_busy, waited}
 use Rattle.writing.proofs.write.write.Goals as goal
 
 pub returns-then-not-is_limit : goal.returns-then-not-is_limit
@@ -16,7 +16,7 @@ pub returns-then-not-wait : goal.returns-then-not-wait
 returns-then-not-wait g c =
     let w = c.if-not-wait.ensures in
     let p = polled-short _ g.met.P.Part.stays g.met.P.Part.joins _ _ _ w.idle w.polls in
-    still-busy (grind (arith, nat_tests)) (grind (arith, nat_tests)) p.0 p.1 (refl, refl)
+    still_busy (grind (arith, nat_tests)) (grind (arith, nat_tests)) p.0 p.1 (refl, refl)
 
 pub returns : goal.returns
 returns g c =
