@@ -16,9 +16,9 @@ pub(crate) const BUSY: usize = 2;
 
 pub(crate) const SECTORS: usize = 8;
 
-pub(crate) const PAGES: usize = 4;
+const PAGES: usize = 4;
 
-pub(crate) const BYTES: usize = 2048;
+const BYTES: usize = 2048;
 
 // What a buffer holds before a call: no byte of a memory is this one.
 pub(crate) const UNTOUCHED: u8 = 0xA5;

@@ -1,4 +1,4 @@
-// Steps, as they are shown.
+// Steps made, and shown.
 use least::step::Step;
 use memory::kind::Kind;
 

@@ -47,7 +47,7 @@ fn try_write<P: Part>(
     Ok(())
 }
 
-// Three polls are due after a cycle. The first writes are refused, and make the polls of their limits once that is looked at.
+// Three polls are due after the cycle: a write whose limit is lower makes the limit's, and is refused.
 pub(crate) fn try_writes(rt: &HostRuntime) -> anyhow::Result<()> {
     println!(rt; "writes over a driver with sector 7 protected")?;
     let mut part = make_driver(TOP_PROTECTED, blank(rt.alloc())?)?;
