@@ -8,9 +8,11 @@ mod rounds;
 mod side;
 mod slow;
 mod slow_part;
+#[cfg(test)]
+mod tests;
 
 use anyhow::Context;
-use rounds::rounds;
+use rounds::{Round, rounds};
 use std::process::ExitCode;
 use trials::picker::Picker;
 
@@ -28,18 +30,29 @@ fn read_seed(rt: &HostRuntime) -> anyhow::Result<usize> {
     line?.trim().parse().context("the seed")
 }
 
-fn main(rt: HostRuntime) -> anyhow::Result<ExitCode> {
-    let seed = read_seed(&rt)?;
-    println!(rt; "seed {seed}")?;
+// Plays all rounds, and answers whether the sides of every one are alike.
+fn are_alike(rt: &HostRuntime, rounds: &[Round], seed: usize) -> anyhow::Result<bool> {
     let mut picker = Picker::new(seed);
     let mut alike = true;
-    for round in &rounds() {
-        alike = round.compare(&rt, picker.pick(SEEDS))? && alike;
+    for round in rounds {
+        alike = round.compare(rt, picker.pick(SEEDS))? && alike;
     }
+    Ok(alike)
+}
+
+// Prints how it ended, and answers the program's status.
+fn conclude(rt: &HostRuntime, alike: bool) -> anyhow::Result<ExitCode> {
     if !alike {
         println!(rt; "not alike")?;
         return Ok(ExitCode::FAILURE);
     }
     println!(rt; "all alike")?;
     Ok(ExitCode::SUCCESS)
+}
+
+fn main(rt: HostRuntime) -> anyhow::Result<ExitCode> {
+    let seed = read_seed(&rt)?;
+    println!(rt; "seed {seed}")?;
+    let alike = are_alike(&rt, &rounds(), seed)?;
+    conclude(&rt, alike)
 }

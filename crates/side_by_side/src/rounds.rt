@@ -32,7 +32,7 @@ const CAUSES: [Cause; 8] = [
 
 // What the chip is compared with.
 #[derive(Clone, Copy, Debug)]
-enum Beside {
+pub(crate) enum Beside {
     PlainImage,
     SlowImage,
 }
@@ -44,6 +44,8 @@ pub(crate) struct Round {
     status: u8,
     // how many polls show busy after a cycle
     busy_number: usize,
+    // the least limit of polls that is picked
+    pub(crate) least: usize,
     lists: usize,
 }
 
@@ -61,22 +63,25 @@ pub(crate) fn rounds() -> [Round; 8] {
 }
 
 impl Round {
-    fn new(beside: Beside, capacity: u8, status: u8, busy_number: usize, lists: usize) -> Round {
+    // After a cycle a plain image is busy for one poll only, so beside it no limit is picked that is not enough for the chip.
+    pub(crate) fn new(
+        beside: Beside,
+        capacity: u8,
+        status: u8,
+        busy_number: usize,
+        lists: usize,
+    ) -> Round {
+        let least = match beside {
+            Beside::PlainImage => busy_number.saturating_add(1),
+            Beside::SlowImage => 1,
+        };
         Round {
             beside,
             capacity,
             status,
             busy_number,
+            least,
             lists,
-        }
-    }
-
-    // The least limit of polls that is picked. After a cycle a plain image is busy for one poll only, so beside it none is picked
-    // that is not enough for the chip.
-    fn least(&self) -> usize {
-        match self.beside {
-            Beside::PlainImage => self.busy_number.saturating_add(1),
-            Beside::SlowImage => 1,
         }
     }
 
@@ -116,7 +121,7 @@ impl Round {
         let mut caller = Caller {
             picker: Picker::new(seed),
             geometry: self.geometry()?,
-            least: self.least(),
+            least: self.least,
         };
         let mut side = make(caller.image(heap)?)?;
         let mut record = Vec::new(heap);
@@ -157,6 +162,7 @@ impl Round {
             capacity,
             status,
             busy_number,
+            least: _,
             lists: _,
         } = self;
         let calls = outcome.record.len();

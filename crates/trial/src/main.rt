@@ -1,4 +1,5 @@
-// Writes planned and run over a plain image and over a driver on a bench chip: the same steps, cost and bytes.
+// Writes planned and run over a plain image and over a driver on a bench chip: the same steps, cost and bytes. Then one with too few
+// polls for the chip, where the two differ.
 #![tactic(auto)]
 
 ghost use Rattle.std.specs.Prelude.{◌≡◌};
@@ -6,7 +7,7 @@ ghost use Rattle.planner.specs.Running.{sent_before};
 
 mod writes;
 
-use anyhow::Context;
+use anyhow::{Context, ensure};
 use driver::attach::attach;
 use least::cost::Cost;
 use least::step::Step;
@@ -16,12 +17,13 @@ use planner::fault::PlanFault;
 use planner::plan::plan;
 use planner::run::run;
 use planner::run_fault::RunFault;
+use planner::wait::wait;
 use port::bench::BenchChip;
 use std::alloc::Global;
 use trials::chip::ChipFault;
 use trials::plain::plain_image;
 use trials::trial::Trial;
-use writes::{BYTES, PAGES, SECTORS, trials};
+use writes::{BYTES, PAGES, SECTORS, ended, trials};
 
 // The bench chip of this program: each program chooses its own.
 const CAPACITY: u8 = 0x0B;
@@ -63,20 +65,28 @@ fn plan_and_run<P: Part>(
     trial: &Trial,
     steps: &mut Vec<Step>,
     data: &mut Vec<u8>,
+    limit: usize,
 ) -> Result<Ran, PlanFault> {
     let cost = plan(part, trial.address, &trial.bytes, steps, data)?;
     let (cycles, bytes) = cost;
     steps.truncate(cycles);
     data.truncate(bytes);
-    let sent = run(part, steps, data, MOST_POLLS);
+    let sent = run(part, steps, data, limit);
     Ok(Ran { cost, sent })
 }
 
-fn attempt<P: Part>(heap: Global, part: &mut P, trial: &Trial) -> anyhow::Result<Outcome> {
+fn attempt<P: Part>(
+    heap: Global,
+    part: &mut P,
+    trial: &Trial,
+    limit: usize,
+) -> anyhow::Result<Outcome> {
     let mut steps = vec![in heap; Step::UNUSED; ROOM]?;
     let mut data = vec![in heap; 0; BYTES]?;
     let mut image = vec![in heap; 0; BYTES]?;
-    let answer = plan_and_run(part, trial, &mut steps, &mut data);
+    let answer = plan_and_run(part, trial, &mut steps, &mut data, limit);
+    // polls are due after an abandoned run
+    ensure!(wait(part, MOST_POLLS), "the part is still busy");
     part.read(0, &mut image)
         .ok()
         .context("the part is not read")?;
@@ -98,19 +108,32 @@ fn is_written(trial: &Trial, image: &[u8]) -> bool {
         .eq(image)
 }
 
-fn over_plain(heap: Global, trial: &Trial) -> anyhow::Result<Outcome> {
+fn over_plain(heap: Global, trial: &Trial, limit: usize) -> anyhow::Result<Outcome> {
     let mut part = plain_image(SECTORS, PAGES, trial.status, trial.image.clone()?)?;
-    attempt(heap, &mut part, trial)
+    attempt(heap, &mut part, trial, limit)
 }
 
-fn over_chip(heap: Global, trial: &Trial) -> anyhow::Result<Outcome> {
+fn over_chip(heap: Global, trial: &Trial, limit: usize) -> anyhow::Result<Outcome> {
     let chip = BenchChip::new(CAPACITY, trial.image.clone()?, trial.status, BUSY).map_err(
         ChipFault::from,
     )?;
     let mut part = attach(chip, MOST_POLLS)
         .ok()
         .context("the driver does not attach")?;
-    attempt(heap, &mut part, trial)
+    attempt(heap, &mut part, trial, limit)
+}
+
+// How many cycles were sent: nothing is of a write that is not planned.
+fn sent_of(outcome: &Outcome) -> usize {
+    outcome.answer.map_or(0, |ran| cycles_sent(ran.sent))
+}
+
+fn tell(rt: &HostRuntime, trial: &Trial, outcome: &Outcome) -> anyhow::Result<()> {
+    let answer = outcome.answer.map(|ran| ran.cost);
+    let sent = sent_of(outcome);
+    let written = is_written(trial, &outcome.image);
+    print!(rt; "{answer:?}, {sent} cycles sent, written {written}")?;
+    Ok(())
 }
 
 fn show(
@@ -118,18 +141,20 @@ fn show(
     number: usize,
     trial: &Trial,
     plain: &Outcome,
-    same: bool,
+    chip: &Outcome,
 ) -> anyhow::Result<()> {
     let address = trial.address;
     let n = trial.bytes.len();
-    let answer = plain.answer.map(|ran| ran.cost);
-    let written = is_written(trial, &plain.image);
-    // nothing is sent of a write that is not planned
-    let sent = plain.answer.map_or(0, |ran| cycles_sent(ran.sent));
-    println!(rt;
-        "{number}: {n} bytes at {address}: {answer:?}, {sent} cycles sent, written {written}, both alike {same}"
-    )?;
-    for step in plain.steps.iter().take(sent) {
+    let same = plain == chip;
+    print!(rt; "{number}: {n} bytes at {address}: ")?;
+    tell(rt, trial, plain)?;
+    println!(rt; ", both alike {same}")?;
+    if !same {
+        print!(rt; "  on the chip: ")?;
+        tell(rt, trial, chip)?;
+        println!(rt; "")?;
+    }
+    for step in plain.steps.iter().take(sent_of(plain)) {
         let kind = step.kind;
         let at = step.address;
         let length = step.length;
@@ -138,12 +163,17 @@ fn show(
     Ok(())
 }
 
+fn try_write(rt: &HostRuntime, number: usize, trial: &Trial, limit: usize) -> anyhow::Result<()> {
+    let plain = over_plain(rt.alloc(), trial, limit)?;
+    let chip = over_chip(rt.alloc(), trial, limit)?;
+    show(rt, number, trial, &plain, &chip)
+}
+
 fn main(rt: HostRuntime) -> anyhow::Result<()> {
-    let heap = rt.alloc();
-    for (number, trial) in trials(heap)?.iter().enumerate() {
-        let plain = over_plain(heap, trial)?;
-        let chip = over_chip(heap, trial)?;
-        show(&rt, number, trial, &plain, plain == chip)?;
+    let trials = trials(rt.alloc())?;
+    for (number, trial) in trials.iter().enumerate() {
+        try_write(&rt, number, trial, MOST_POLLS)?;
     }
-    Ok(())
+    // of two cycles: one poll is enough for the plain image after each, and too few for the chip
+    try_write(&rt, trials.len(), &ended(rt.alloc(), 62, 4)?, 1)
 }

@@ -59,7 +59,7 @@ fn outside(heap: Global) -> Result<Trial, AllocError> {
 }
 
 // A write whose first and last bytes are 00h.
-fn ended(heap: Global, address: usize, n: usize) -> Result<Trial, AllocError> {
+pub(crate) fn ended(heap: Global, address: usize, n: usize) -> Result<Trial, AllocError> {
     let mut trial = blank(heap, OPEN, address, n)?;
     if let Some(first) = trial.bytes.first_mut() {
         *first = 0;

@@ -1,9 +1,14 @@
-// A driver tried on every chip, on both sides of a bus: cycles, polls and reads, and what came of them.
+// A driver tried on every chip, on both sides of a bus: cycles, polls and reads, and what came of them; then the buses taken apart,
+// and frames that no driver sends.
 #![tactic(auto)]
+
+mod frames;
+mod sides;
 
 use anyhow::Context;
 use driver::attach::attach;
 use driver::driver::Driver;
+use frames::try_frames;
 use hex_text::spaced::Spaced;
 use memory::geometry::Geometry;
 use memory::kind::Kind;
@@ -11,6 +16,7 @@ use part::fault::PartFault;
 use part::part::Part;
 use port::bench::BenchChip;
 use port::bus::{Bus, Side};
+use sides::write_and_release;
 use trials::chip::blank_chip;
 use trials::trial::TOP_PROTECTED;
 
@@ -100,5 +106,8 @@ fn main(rt: HostRuntime) -> anyhow::Result<()> {
             attach_and_try(&rt, capacity, side)?;
         }
     }
-    Ok(())
+    for side in [Side::First, Side::Second] {
+        write_and_release(&rt, side)?;
+    }
+    try_frames(&rt)
 }
