@@ -1,6 +1,6 @@
 // Memories made of a caller's bytes, which are handed back where there is none.
-use memory::image::Unmade;
 use memory::report::Reported;
+use memory::unmade::Unmade;
 use part::plain::PlainImage;
 use port::bench::BenchChip;
 

@@ -1,5 +1,10 @@
 pub mod Faults
 pub mod Limits
+pub mod Results
 pub mod Spelling
+pub mod Commands
+pub mod Words
+pub mod Meaning
+pub mod Views
 pub mod Showing
 pub mod Lines

@@ -1,4 +1,7 @@
 // The commands of a script.
+ghost use Rattle.std.specs.Prelude.{◌≡◌};
+ghost use Rattle.script.specs.Commands.{command_of};
+
 use crate::fault::Fault;
 use std::fmt;
 use std::str::FromStr;
@@ -17,6 +20,8 @@ pub enum Command {
 
 impl FromStr for Command {
     type Err = Fault;
+
+    ghost from_str_gives = { λ word result. result ≡ command_of word };
 
     fn from_str(word: &str) -> Result<Command, Fault> {
         match word {

@@ -1,9 +1,10 @@
 // The chip of a script, what it holds at the start, and its making.
-ghost use Rattle.std.specs.Prelude.{◌≡◌, ◌+◌, length, replicate, is_ok, IfOk, if◌then◌else◌, vec_len, nat_le};
+ghost use Rattle.std.specs.Prelude.{◌≡◌, ◌≢◌, ◌+◌, length, replicate, Some, None, Ok, Err, MatchResult, is_ok, if◌then◌else◌, option_map, vec_len, nat_le};
 ghost use Rattle.memory.specs.Models.{shape_for};
 ghost use Rattle.memory.specs.Page.{put};
 ghost use Rattle.memory.specs.Shape.{size};
-ghost use Rattle.port.specs.Bench.{chip_of, fresh};
+ghost use Rattle.port.specs.Bench.{chip_of, fresh, unmade};
+ghost use Rattle.script.specs.declared.fault.Fault.TheVariants.{Making, NoMemory, Outside};
 
 use crate::chip::Chip;
 use crate::fault::Fault;
@@ -15,7 +16,9 @@ use trials::chip::blank_chip;
 impl Chip {
     // A chip that holds FFh everywhere. It is made once here, so that what is wrong with it is told on its line.
     pub(crate) fn blank(heap: Global, capacity: u8, status: u8, busy: usize) -> Result<Chip, Fault>
-        ensures { IfOk result (λ c. (c.capacity ≡ capacity) × (c.status ≡ status) × (c.busy ≡ busy) × (c.image.items ≡ replicate (size (shape_for capacity)) 255)) }
+        ensures { MatchResult result
+            (λ c. (unmade capacity (size (shape_for capacity)) status busy ≡ None) × (c.capacity ≡ capacity) × (c.status ≡ status) × (c.busy ≡ busy) × (c.image.items ≡ replicate (size (shape_for capacity)) 255))
+            (λ e. e ≢ NoMemory → option_map Making (unmade capacity (size (shape_for capacity)) status busy) ≡ Some e) }
     {
         let made = blank_chip(heap, capacity, status, busy)?;
         Ok(Chip {
@@ -28,7 +31,7 @@ impl Chip {
 
     // Lays bytes over the image, where they lie inside it.
     pub(crate) fn lay(&mut self, address: usize, bytes: &[u8]) -> Result<(), Fault>
-        ensures inside { is_ok result ≡ nat_le (address + length bytes.now) (vec_len self.old.image) }
+        ensures inside { result ≡ (if nat_le (address + length bytes.now) (vec_len self.old.image) then Ok tt else Err Outside) }
         ensures laid { self.new.image.items ≡ (if is_ok result then put address bytes.now self.old.image.items else self.old.image.items) }
         ensures kept { (self.new.capacity ≡ self.old.capacity) × (self.new.status ≡ self.old.status) × (self.new.busy ≡ self.old.busy) }
     {

@@ -1,13 +1,17 @@
 // A script read from text.
-ghost use Rattle.std.specs.Prelude.{◌≡◌, ◌+◌, ◌<◌, ◌≤◌, length, IfErr, IsErrAnd, OnOk, IsUtf8};
+ghost use Rattle.std.specs.Prelude.{◌≡◌, ◌+◌, ◌<◌, ◌≤◌, length, IfErr, IfOk, IsErrAnd, OnOk, IsUtf8};
 ghost use Rattle.std.specs.Str.Lossy.{utf8_valid_len};
 ghost use Rattle.script.specs.Lines.{line_ends, line_of};
+ghost use Rattle.script.specs.Meaning.{line_said, script_of};
+ghost use Rattle.script.specs.Results.{Gives, Reads};
+ghost use Rattle.script.specs.Views.{progress, said_by};
+ghost use Rattle.script.specs.Words.{texts, uncommented, words_of};
 ghost use Rattle.script.specs.declared.fault.Fault.TheVariants.{Long, Text};
 
 use crate::fault::{Fault, ScriptFault};
 use crate::reading::Reading;
 use crate::script::Script;
-use std::alloc::Global;
+use std::alloc::{AllocError, Global};
 use std::str::from_utf8;
 
 // The most bytes that a script has.
@@ -20,15 +24,32 @@ fn line_at(text: &[u8], at: usize) -> usize
     1 + text.iter().take(at).filter(|b| **b == b'\n').count()
 }
 
-// What a line says, without its comment.
-fn take_line(heap: Global, reading: &mut Reading, line: &str) -> Result<(), Fault> {
-    let said = line.split_once('#').map_or(line, |(said, _)| said);
-    let words: Vec<&str> = said.split_whitespace().collect(heap)?;
+// A line without its comment.
+fn uncommented(line: &str) -> &str
+    ensures { result.now ≡ uncommented line.now }
+{
+    line.split_once('#').map_or(line, |(said, _)| said)
+}
+
+// The words of a text.
+fn words<'a>(heap: Global, line: &'a str) -> Result<Vec<&'a str>, AllocError>
+    ensures { IfOk result (λ v. texts v.items ≡ words_of line.now) }
+{
+    line.split_whitespace().collect(heap)
+}
+
+// What a line says.
+fn take_line(heap: Global, reading: &mut Reading, line: &str) -> Result<(), Fault>
+    ensures { Gives (λ _. progress reading.new) result (line_said (progress reading.old) line.now) }
+{
+    let words = words(heap, uncommented(line))?;
     reading.take(&words)
 }
 
 fn read_lines(heap: Global, text: &str) -> Result<Script, ScriptFault>
-    ensures { IfErr result (λ e. (0 < e.line) × (e.line ≤ 1 + line_ends text.now)) }
+    requires { length text.now ≤ 1048576 }
+    ensures line { IfErr result (λ e. (0 < e.line) × (e.line ≤ 1 + line_ends text.now)) }
+    ensures script { Reads said_by result (script_of text.now) }
 {
     let mut reading = Reading::new(heap);
     for (number, line) in (1..).zip(text.lines()) {
@@ -43,6 +64,7 @@ pub fn read_script(heap: Global, text: &[u8]) -> Result<Script, ScriptFault>
     ensures long { 1048576 < length text.now → IsErrAnd result (λ e. e ≡ record { line = line_of 1048576 text.now; fault = Long }) }
     ensures not_text { length text.now ≤ 1048576 → ¬ (IsUtf8 text.now) → IsErrAnd result (λ e. e ≡ record { line = line_of (utf8_valid_len text.now) text.now; fault = Text }) }
     ensures text { OnOk result (IsUtf8 text.now) }
+    ensures script { length text.now ≤ 1048576 → IsUtf8 text.now → Reads said_by result (script_of text.now) }
     ensures line { IfErr result (λ e. (0 < e.line) × (e.line ≤ 1 + line_ends text.now)) }
 {
     if text.len() > MOST_TEXT {

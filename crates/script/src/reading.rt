@@ -49,12 +49,23 @@ pub(crate) struct Reading {
 }
 
 impl Reading {
-    pub(crate) fn new(heap: Global) -> Reading {
+    ghost use Rattle.std.specs.Prelude.{None};
+    ghost use Rattle.script.specs.Meaning.{ended, words_said};
+    ghost use Rattle.script.specs.Results.{Gives};
+    ghost use Rattle.script.specs.Views.{progress, said_by};
+    ghost use Rattle.script.specs.Words.{texts};
+
+    pub(crate) fn new(heap: Global) -> Reading
+        ensures { progress result ≡ None }
+    {
         Reading { heap, begun: None }
     }
 
     // What the words of one line say. A line without words says nothing.
-    pub(crate) fn take(&mut self, words: &[&str]) -> Result<(), Fault> {
+    #[tactic(auto, unfolding(crate::specs::Meaning::words_said))]
+    pub(crate) fn take(&mut self, words: &[&str]) -> Result<(), Fault>
+        ensures { Gives (λ _. progress self.new) result (words_said (progress self.old) (texts words.now)) }
+    {
         let [word, arguments @ ..] = words else {
             return Ok(());
         };
@@ -67,7 +78,9 @@ impl Reading {
     }
 
     // The whole script, once every line is read.
-    pub(crate) fn finish(self) -> Result<Script, Fault> {
+    pub(crate) fn finish(self) -> Result<Script, Fault>
+        ensures { Gives said_by result (ended (progress self)) }
+    {
         self.begun.map(|begun| begun.script).ok_or(Fault::NoChip)
     }
 }
@@ -85,8 +98,17 @@ struct Begun {
 }
 
 impl Begun {
+    ghost use Rattle.calls.specs.Requests.{asks};
+    ghost use Rattle.script.specs.Meaning.{called, close_said, first_said, image_said, later_said, limit_said, no_call, open_said, read_said, room_said, write_said};
+    ghost use Rattle.script.specs.Results.{Gives};
+    ghost use Rattle.script.specs.Views.{state_of};
+    ghost use Rattle.script.specs.Words.{texts};
+
     // What the first command says, which has to be `chip`.
-    fn new(heap: Global, command: Command, arguments: &[&str]) -> Result<Begun, Fault> {
+    #[tactic(auto, unfolding(crate::specs::Meaning::first_said))]
+    fn new(heap: Global, command: Command, arguments: &[&str]) -> Result<Begun, Fault>
+        ensures { Gives state_of result (first_said command (texts arguments.now)) }
+    {
         match (command, arguments) {
             (Command::Chip, [capacity, status, busy]) => {
                 let chip = Chip::blank(heap, byte(capacity)?, byte(status)?, decimal(busy)?)?;
@@ -107,21 +129,16 @@ impl Begun {
     }
 
     // What another command says.
-    fn take(&mut self, command: Command, arguments: &[&str]) -> Result<(), Fault> {
+    fn take(&mut self, command: Command, arguments: &[&str]) -> Result<(), Fault>
+        ensures { Gives (λ _. state_of self.new) result (later_said (state_of self.old) command (texts arguments.now)) }
+    {
         match (command, arguments) {
             (Command::Chip, [_, _, _]) => Err(Fault::ChipAgain),
             (Command::Image, [address, bytes @ ..]) => self.lay_image(address, bytes),
             (Command::Room, [steps, bytes]) => self.set_room(steps, bytes),
-            (Command::Limit, [polls]) => {
-                self.limit = decimal(polls)?;
-                Ok(())
-            }
-            (Command::Close, [sector]) => self.call(Call::Close {
-                sector: decimal(sector)?,
-            }),
-            (Command::Open, [sector]) => self.call(Call::Open {
-                sector: decimal(sector)?,
-            }),
+            (Command::Limit, [polls]) => self.set_limit(polls),
+            (Command::Close, [sector]) => self.close(sector),
+            (Command::Open, [sector]) => self.open(sector),
             (Command::Read, [address, length]) => self.read(address, length),
             (Command::Write, [address, bytes @ ..]) => self.write(address, bytes),
             _ => Err(Fault::Words(command)),
@@ -129,7 +146,10 @@ impl Begun {
     }
 
     // Refuses a command that stands after the first call.
-    fn check_no_call(&self) -> Result<(), Fault> {
+    #[tactic(auto, unfolding(crate::specs::Meaning::no_call))]
+    fn check_no_call(&self) -> Result<(), Fault>
+        ensures { result ≡ no_call (state_of self.now) }
+    {
         if self.script.calls.is_empty() {
             Ok(())
         } else {
@@ -137,14 +157,20 @@ impl Begun {
         }
     }
 
-    fn lay_image(&mut self, address: &str, words: &[&str]) -> Result<(), Fault> {
+    #[tactic(auto, unfolding(crate::specs::Meaning::image_said))]
+    fn lay_image(&mut self, address: &str, words: &[&str]) -> Result<(), Fault>
+        ensures { Gives (λ _. state_of self.new) result (image_said (state_of self.old) address.now (texts words.now)) }
+    {
         self.check_no_call()?;
         let address = decimal(address)?;
         let bytes = bytes(self.heap, words)?;
         self.script.chip.lay(address, &bytes)
     }
 
-    fn set_room(&mut self, steps: &str, bytes: &str) -> Result<(), Fault> {
+    #[tactic(auto, unfolding(crate::specs::Meaning::room_said))]
+    fn set_room(&mut self, steps: &str, bytes: &str) -> Result<(), Fault>
+        ensures { Gives (λ _. state_of self.new) result (room_said (state_of self.old) steps.now bytes.now) }
+    {
         self.check_no_call()?;
         let steps = decimal(steps)?;
         let bytes = decimal(bytes)?;
@@ -155,7 +181,34 @@ impl Begun {
         Ok(())
     }
 
-    fn read(&mut self, address: &str, length: &str) -> Result<(), Fault> {
+    #[tactic(auto, unfolding(crate::specs::Meaning::limit_said))]
+    fn set_limit(&mut self, polls: &str) -> Result<(), Fault>
+        ensures { Gives (λ _. state_of self.new) result (limit_said (state_of self.old) polls.now) }
+    {
+        self.limit = decimal(polls)?;
+        Ok(())
+    }
+
+    #[tactic(auto, unfolding(crate::specs::Meaning::close_said))]
+    fn close(&mut self, sector: &str) -> Result<(), Fault>
+        ensures { Gives (λ _. state_of self.new) result (close_said (state_of self.old) sector.now) }
+    {
+        let sector = decimal(sector)?;
+        self.call(Call::Close { sector })
+    }
+
+    #[tactic(auto, unfolding(crate::specs::Meaning::open_said))]
+    fn open(&mut self, sector: &str) -> Result<(), Fault>
+        ensures { Gives (λ _. state_of self.new) result (open_said (state_of self.old) sector.now) }
+    {
+        let sector = decimal(sector)?;
+        self.call(Call::Open { sector })
+    }
+
+    #[tactic(auto, unfolding(crate::specs::Meaning::read_said))]
+    fn read(&mut self, address: &str, length: &str) -> Result<(), Fault>
+        ensures { Gives (λ _. state_of self.new) result (read_said (state_of self.old) address.now length.now) }
+    {
         let address = decimal(address)?;
         let length = decimal(length)?;
         if length > MOST {
@@ -165,7 +218,10 @@ impl Begun {
         self.call(Call::Read { address, into })
     }
 
-    fn write(&mut self, address: &str, words: &[&str]) -> Result<(), Fault> {
+    #[tactic(auto, unfolding(crate::specs::Meaning::write_said))]
+    fn write(&mut self, address: &str, words: &[&str]) -> Result<(), Fault>
+        ensures { Gives (λ _. state_of self.new) result (write_said (state_of self.old) address.now (texts words.now)) }
+    {
         let address = decimal(address)?;
         let bytes = bytes(self.heap, words)?;
         let limit = self.limit;
@@ -177,8 +233,10 @@ impl Begun {
     }
 
     // One more call, if the script may have its bytes.
+    #[tactic(auto, unfolding(crate::specs::Meaning::called))]
     fn call(&mut self, call: Call) -> Result<(), Fault>
         requires { is_short call ≡ true }
+        ensures { Gives (λ _. state_of self.new) result (called (state_of self.old) (asks call)) }
     {
         let length = bytes_of(&call);
         if length > self.left {

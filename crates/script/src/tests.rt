@@ -1,5 +1,6 @@
 // Faulty scripts and their messages, and how a script is taken.
 use crate::read::{MOST_TEXT, read_script};
+use crate::script::Script;
 use calls::call::Call;
 use std::alloc::Global;
 use std::process::Abort;
@@ -47,9 +48,13 @@ fn commands_stand_in_their_order(rt: HostRuntime) -> Result<(), Fail> {
 }
 
 // Commands with too few words, or too many.
-const WORDS: [(&[u8], &str); 8] = [
+const WORDS: [(&[u8], &str); 13] = [
     (
         b"chip 0B 80\n",
+        "line 1: write it as: chip CAPACITY STATUS BUSY",
+    ),
+    (
+        b"chip 0B 80 2 3\n",
         "line 1: write it as: chip CAPACITY STATUS BUSY",
     ),
     (
@@ -60,15 +65,31 @@ const WORDS: [(&[u8], &str); 8] = [
         b"chip 0B 80 2\nroom 1\n",
         "line 2: write it as: room STEPS DATA",
     ),
+    (
+        b"chip 0B 80 2\nroom 1 1 1\n",
+        "line 2: write it as: room STEPS DATA",
+    ),
     (b"chip 0B 80 2\nlimit\n", "line 2: write it as: limit POLLS"),
+    (
+        b"chip 0B 80 2\nlimit 3 3\n",
+        "line 2: write it as: limit POLLS",
+    ),
     (
         b"chip 0B 80 2\nclose 1 2\n",
         "line 2: write it as: close SECTOR",
     ),
     (b"chip 0B 80 2\nopen\n", "line 2: write it as: open SECTOR"),
     (
+        b"chip 0B 80 2\nopen 1 2\n",
+        "line 2: write it as: open SECTOR",
+    ),
+    (
         b"chip 0B 80 2\n\nread 0 # no length\n",
         "line 3: write it as: read ADDRESS LENGTH",
+    ),
+    (
+        b"chip 0B 80 2\nread 0 1 1\n",
+        "line 2: write it as: read ADDRESS LENGTH",
     ),
     (
         b"chip 0B 80 2\nwrite\n",
@@ -140,6 +161,36 @@ fn commands_keep_their_bounds(rt: HostRuntime) -> Result<(), Fail> {
     are_told(&rt, rt.alloc(), &BOUNDS)
 }
 
+// As much as one command may ask for.
+const MOST_ASKED: [&[u8]; 3] = [
+    b"chip 0B 80 2\nroom 1048576 16777216\n",
+    b"chip 0B 80 2\nwrite 0 16777216*00\n",
+    b"chip 0B 80 2\nread 0 16777216\n",
+];
+
+#[test]
+fn commands_may_reach_their_bounds(rt: HostRuntime) -> Result<(), Fail> {
+    for text in MOST_ASKED {
+        let _script = read_script(rt.alloc(), text)?;
+    }
+    Ok(())
+}
+
+// As many bytes as a script may have, and one more.
+#[test]
+fn a_script_keeps_its_bound(rt: HostRuntime) -> Result<(), Fail> {
+    let heap = rt.alloc();
+    let mut text = String::from_str(heap, "chip 0B 80 2\n")?;
+    for _ in 0..16 {
+        text.push_str("read 0 16777216\n")?;
+    }
+    assert_eq!(rt; read_script(heap, text.as_bytes())?.calls.len(), 16);
+    text.push_str("read 0 1\n")?;
+    let wanted = "line 18: more than 268435456 bytes in the script";
+    assert_eq!(rt; message(heap, text.as_bytes())?.as_str(), wanted);
+    Ok(())
+}
+
 // A text that is too long is faulty where it passes that, whatever stands before.
 #[test]
 fn a_script_is_a_text(rt: HostRuntime) -> Result<(), Fail> {
@@ -171,5 +222,82 @@ fn a_limit_is_for_the_writes_that_follow(rt: HostRuntime) -> Result<(), Fail> {
     };
     assert_eq!(rt; (*address, *limit), (60, 3));
     assert_eq!(rt; bytes.as_slice(), [0x0A, 0x0A, 0x0A, 0xFF].as_slice());
+    Ok(())
+}
+
+// The limits of the writes of a script.
+fn limits(heap: Global, script: &Script) -> Result<Vec<usize>, Fail> {
+    let mut limits = Vec::new(heap);
+    for call in &script.calls {
+        if let Call::Write {
+            address: _,
+            bytes: _,
+            limit,
+        } = call
+        {
+            limits.push(*limit)?;
+        }
+    }
+    Ok(limits)
+}
+
+#[test]
+fn any_limit_may_be_given(rt: HostRuntime) -> Result<(), Fail> {
+    let heap = rt.alloc();
+    let script = read_script(
+        heap,
+        b"chip 0B 80 2\nlimit 0\nwrite 0\nlimit 4097\nwrite 0\nlimit 5\nwrite 0\nwrite 0\n",
+    )?;
+    assert_eq!(rt;
+        limits(heap, &script)?.as_slice(),
+        [0, 4097, 5, 5].as_slice()
+    );
+    Ok(())
+}
+
+// The chip is what its line says, and room and limit are what they are where no line says it.
+#[test]
+fn a_script_has_a_chip_room_and_a_limit(rt: HostRuntime) -> Result<(), Fail> {
+    let heap = rt.alloc();
+    let script = read_script(heap, b"chip 16 84 9\nwrite 0\n")?;
+    let chip = &script.chip;
+    assert_eq!(rt; (chip.capacity, chip.status, chip.busy), (0x16, 0x84, 9));
+    assert_eq!(rt; chip.image.len(), 4194304);
+    assert_eq!(rt; (script.room.steps, script.room.bytes), (512, 65536));
+    assert_eq!(rt; limits(heap, &script)?.as_slice(), [4096].as_slice());
+    Ok(())
+}
+
+#[test]
+fn room_is_what_a_script_says(rt: HostRuntime) -> Result<(), Fail> {
+    let script = read_script(rt.alloc(), b"chip 0B 80 2\nroom 2 16\n")?;
+    assert_eq!(rt; (script.room.steps, script.room.bytes), (2, 16));
+    Ok(())
+}
+
+// Comments, tabs and the line ends of other systems part words and lines and say nothing.
+#[test]
+fn comments_and_line_ends_say_nothing(rt: HostRuntime) -> Result<(), Fail> {
+    let script = read_script(rt.alloc(), b"chip\t0B 80\t2#x\r\nclose 1 # a # b\n")?;
+    assert_eq!(rt; script.calls.len(), 1);
+    assert_eq!(rt; script.calls.first(), Some(&Call::Close { sector: 1 }));
+    let _script = read_script(rt.alloc(), b"chip\t0B 80\t2\r\n")?;
+    Ok(())
+}
+
+#[test]
+fn copies_are_counted(rt: HostRuntime) -> Result<(), Fail> {
+    let script = read_script(rt.alloc(), b"chip 0B 80 2\nwrite 60 0*AA 2*0a\n")?;
+    let Some(
+        Call::Write {
+            address: _,
+            bytes,
+            limit: _,
+        },
+    ) = script.calls.first()
+    else {
+        return Err(Fail::new("no write"));
+    };
+    assert_eq!(rt; bytes.as_slice(), [0x0A, 0x0A].as_slice());
     Ok(())
 }

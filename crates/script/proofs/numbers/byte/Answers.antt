@@ -29,6 +29,7 @@ refused true fits r h = refl
 refused false fits r h = rw (h refl) refl
 
 one_byte : (w : List ℕ) → MatchResult (decode_sized w 1) (λ bs. byte_of w ≡ Ok (slice_index_or bs 0 0)) (λ _. byte_of w ≡ Err Byte)
+unfolding byte_of
 one_byte [] = refl
 one_byte (a ∷ []) = refl
 one_byte (a ∷ b ∷ []) = two a b _ _ (same_digit a) (same_digit b)

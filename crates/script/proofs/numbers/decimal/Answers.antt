@@ -21,9 +21,11 @@ same_test (c ∷ cs) = ap (λ b. is_ascii_digit c && b) (same_test cs)
 
 -- a word of digits, by the number that they write
 fits : (w : List ℕ) (n : ℕ) → 0 < length w → all_ascii_digits w ≡ true → read_on 0 w < 2 ^ 64 → n ≡ read_on 0 w → Ok n ≡ decimal_of w
+unfolding decimal_of
 fits w n some all small e = grind (arith, nat_tests)
 
 large : (w : List ℕ) → 0 < length w → all_ascii_digits w ≡ true → (read_on 0 w < 2 ^ 64 → ⊥) → Err Large ≡ decimal_of w
+unfolding decimal_of
 large w some all h =
     let most : 2 ^ 64 ≤ read_on 0 w = omega (arith, h) in grind (arith, nat_tests)
 
@@ -35,9 +37,11 @@ answered w (Err e) (Ok n) Q some all h m q = absurd m
 answered {E} w (Err e) (Err f) Q some all h m q = ap Err (q e f m) ∙ large w some all (λ l. OkIff-at_err {E = E} (Err e) (0 < length w × read_on 0 w < 2 ^ 64) (read_on 0 w) e h refl (some, l))
 
 wrong : (w : List ℕ) → all_ascii_digits w ≡ false → Err Number ≡ decimal_of w
+unfolding decimal_of
 wrong w e = grind (arith, nat_tests)
 
 none : (w : List ℕ) → length w ≡ 0 → Err Number ≡ decimal_of w
+unfolding decimal_of
 none w e = grind (arith, nat_tests)
 
 pub returns-then-is_empty : goal.returns-then-is_empty
