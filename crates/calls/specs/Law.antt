@@ -5,8 +5,7 @@ use Rattle.memory.specs.Page.{block}
 use Rattle.part.specs.declared.part.Part.{Ghosts}
 use Rattle.part.specs.Meaning.{Meaning, Event, asked}
 use Rattle.fence.specs.declared.fence.Fence.{Fence}
-use Rattle.fence.specs.Closed.{fenced}
-use Rattle.fence.specs.Fenced.{FenceTrace}
+use Rattle.fence.specs.Fenced.{fence_meaning, FenceTrace}
 use Rattle.writing.specs.Wrote.{Buffers, Left}
 use Rattle.calls.specs.declared.call.Refusal.TheVariants.{Part, Write}
 use Rattle.calls.specs.declared.call.Answer.{Answer}
@@ -28,7 +27,7 @@ IsProtected (Abandoned cycles) = ⊥
 module _ {P : Type 0} (part : Ghosts P) where
   -- what a fence means
   abbrev pub meant : Fence P → Meaning
-  meant f = fenced (part.meaning f.part) f.closed
+  meant = fence_meaning part
 
   -- what happened to it: the part below it did the same, and the closed sectors stay
   abbrev pub Traced : Fence P → Fence P → List Event → Type 0
