@@ -52,7 +52,7 @@ module _ {F : Type 0} (part : Ghosts F) where
 
   module _ (address : ℕ) (bytes : List ℕ) (limit : ℕ) (b : Buffers) where
     -- a done write: it leaves the image wanted and nothing due, its answer is the cost of the cycles that it sent, every accepted list
-    -- that leads there costs at least that; they are those of the defined plan, whose steps and data both buffers begin with
+    -- that leads there costs at least that; the cycles sent are the defined plan, whose steps and data both buffers begin with
     pub record DoneWrite (cost : ℕ × ℕ) (f g : F) : Type 0 where
       pub passes : Passes (part.meaning f) address (length bytes) limit
       pub ready : F

@@ -29,7 +29,7 @@ module _ {P : Type 0} (part : Ghosts P) where
   abbrev pub meant : Fence P → Meaning
   meant = fence_meaning part
 
-  -- what happened to it: the part below it did the same, and the closed sectors stay
+  -- what happened to it: the part below did the same, no cycle among it is in a closed sector, and the closed sectors stay
   abbrev pub Traced : Fence P → Fence P → List Event → Type 0
   Traced = FenceTrace part
 

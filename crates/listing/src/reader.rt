@@ -1,5 +1,5 @@
-// Reading a listing line by line. A rule of the project: each pair is taken by `let .. else`, which answers the line and the column
-// where there is none.
+// Reading a listing line by line. Each pair is taken by `let .. else`, which answers the line and the column where there is none
+// (docs/DECISIONS.md).
 ghost use Rattle.std.specs.Prelude.{◌≡◌, ℕ, ◌+◌, ◌-◌, ◌^◌, ◌<◌, ◌≤◌, List, [], ◌∷◌, length, drop, Ok, Err, MatchResult};
 ghost use Rattle.listing.specs.declared.fault.ListingFault.TheVariants.{Malformed};
 ghost use Rattle.listing.specs.Parts.{spot, part_of, spot_of, spots_of};

@@ -1,5 +1,5 @@
 -- How many bytes are asked for, added up.
-use Rattle.std.proofs.Common.{◌≡◌, ℕ, zero, suc, ◌+◌, ◌-◌, ◌*◌, ◌<◌, ◌≤◌, Bool, true, false, cond, ◌⊎◌, List, sym, refl, ap, ◌∙◌, subst, inl, inr, add-zero, add-suc, add_assoc, add-one, suc-mul, ap₂, arith}
+use Rattle.std.proofs.Common.{◌≡◌, ℕ, zero, suc, ◌+◌, ◌-◌, ◌*◌, ◌<◌, ◌≤◌, Bool, true, false, cond, ◌⊎◌, List, Ok, Err, Result, sym, refl, ap, ◌∙◌, subst, inl, inr, add-zero, add-suc, add_assoc, add-one, suc-mul, ap₂, arith}
 use Rattle.std.proofs.lemmas.Bool.{cases_eq, cond-false, cond-true}
 use Rattle.memory.specs.Protection.{free}
 use Rattle.memory.proofs.Free.{free_at}
@@ -7,8 +7,10 @@ use Rattle.part.specs.Meaning.{Meaning, protected_at}
 use Rattle.least.specs.Fewest.{fewest}
 use Rattle.planner.specs.declared.chosen.Treatment.{Treatment}
 use Rattle.planner.specs.declared.chosen.Treatment.TheVariants.{Kept, Erased}
+use Rattle.planner.specs.declared.fault.PlanFault.{PlanFault}
+use Rattle.planner.specs.declared.fault.PlanFault.TheVariants.{Outside, Busy, Protected, StepsShort, DataShort}
 use Rattle.planner.specs.Wanted.{covered, touched}
-use Rattle.planner.specs.Asking.{bytes_below, bytes_on, for_barred, for_bulk, for_costs, for_guarded, for_marks, for_page, for_pages, for_sectors, for_steps, planning}
+use Rattle.planner.specs.Asking.{bytes_below, bytes_on, for_barred, for_bulk, for_costs, for_guarded, for_marks, for_page, for_pages, for_sectors, for_steps, planning, planning_to}
 use Rattle.planner.specs.Survey.{by_sectors, erases_all, kept_from, off_from, on_all, on_from, sector_treatment}
 
 -- the bytes of those of n pages from page q on that a write does not touch
@@ -220,8 +222,14 @@ module _ (m : Meaning) (address : ℕ) (bytes : List ℕ) where
   pub planning_most : planning m address bytes ≤ 3 * whole m
   planning_most = omega (arith, first_most, sectors_most m.shape.sectors, for_steps_most m address bytes)
 
-  pub asked_barred : for_barred m address bytes ≤ planning m address bytes
-  asked_barred = omega arith
+  -- a refused plan asks for no more
+  pub planning_to_most : (r : Result (ℕ × ℕ) PlanFault) → planning_to m address bytes r ≤ planning m address bytes
+  planning_to_most (Ok cost) = omega arith
+  planning_to_most (Err (Outside a)) = omega arith
+  planning_to_most (Err Busy) = omega arith
+  planning_to_most (Err (Protected a)) = omega arith
+  planning_to_most (Err (StepsShort cost)) = omega arith
+  planning_to_most (Err (DataShort cost)) = omega arith
 
 -- what is asked of a part whose meaning stays: for the choice too, and for the steps
 module _ (m n : Meaning) (address : ℕ) (bytes : List ℕ) (e : n ≡ m) where
@@ -229,10 +237,6 @@ module _ (m n : Meaning) (address : ℕ) (bytes : List ℕ) (e : n ≡ m) where
       for_barred m address bytes + (for_sectors n address bytes n.shape.sectors + for_bulk n address bytes)
       ≡ for_barred m address bytes + (for_sectors m address bytes m.shape.sectors + for_bulk m address bytes)
   asked_choice = ap (λ (x : Meaning). for_barred m address bytes + (for_sectors x address bytes x.shape.sectors + for_bulk x address bytes)) e
-
-  pub asked_most :
-      for_barred m address bytes + (for_sectors n address bytes n.shape.sectors + for_bulk n address bytes) ≤ planning m address bytes
-  asked_most = omega (arith, asked_choice)
 
   pub asked_all :
       for_barred m address bytes + (for_sectors m address bytes m.shape.sectors + for_bulk m address bytes) + for_steps n address bytes

@@ -1,11 +1,13 @@
 -- How many bytes planning asks for at most, look by look: for protected bytes that would change, for the costs of the sectors, for
 -- that of erasing all, and for the steps.
-use Rattle.std.specs.Prelude.{ℕ, zero, suc, ◌+◌, ◌*◌, cond, List}
+use Rattle.std.specs.Prelude.{ℕ, zero, suc, ◌+◌, ◌*◌, cond, List, Ok, Err, Result}
 use Rattle.memory.specs.Protection.{free}
 use Rattle.part.specs.Meaning.{Meaning, protected_at}
 use Rattle.least.specs.Fewest.{fewest}
 use Rattle.planner.specs.declared.chosen.Treatment.{Treatment}
 use Rattle.planner.specs.declared.chosen.Treatment.TheVariants.{Kept, Erased}
+use Rattle.planner.specs.declared.fault.PlanFault.{PlanFault}
+use Rattle.planner.specs.declared.fault.PlanFault.TheVariants.{Outside, Busy, Protected, StepsShort, DataShort}
 use Rattle.planner.specs.Wanted.{covered, touched}
 use Rattle.planner.specs.Survey.{by_sectors, erases_all, kept_from, off_from, on_all, on_from, sector_treatment}
 
@@ -50,7 +52,8 @@ for_bulk m address bytes =
     (bytes_below m address bytes (by_sectors m address bytes) (fewest.plus (1, 0) (on_all m address bytes)) 0 (m.shape.sectors * m.shape.pages))
     0
 
--- those asked for the step of page q: as it stands where the write touches it, once erased unless the write covers it
+-- those asked for the step of page q where there is room for one: as it stands where the write touches it, once erased unless the write
+-- covers it. Pages after the last step are counted too, though none is then read
 abbrev pub for_page : ℕ → List ℕ → Treatment → ℕ → ℕ
 for_page address bytes Kept q = cond (touched address bytes q) 64 0
 for_page address bytes Erased q = cond (covered address bytes q) 0 64
@@ -72,7 +75,16 @@ for_steps m address bytes =
     cond (erases_all m address bytes) (for_pages address bytes Erased 0 (m.shape.sectors * m.shape.pages))
     (for_marks m address bytes (sector_treatment m address bytes) m.shape.sectors)
 
--- all that planning asks for
+-- all that planning asks for where there is room for its plan
 abbrev pub planning : Meaning → ℕ → List ℕ → ℕ
 planning m address bytes =
     for_barred m address bytes + (for_sectors m address bytes m.shape.sectors + for_bulk m address bytes) + for_steps m address bytes
+
+-- and as far as it came: to nothing, to a protected byte, to the cost, or to its end
+abbrev pub planning_to : Meaning → ℕ → List ℕ → Result (ℕ × ℕ) PlanFault → ℕ
+planning_to m address bytes (Ok cost) = planning m address bytes
+planning_to m address bytes (Err (Outside a)) = 0
+planning_to m address bytes (Err Busy) = 0
+planning_to m address bytes (Err (Protected a)) = for_barred m address bytes
+planning_to m address bytes (Err (StepsShort cost)) = for_barred m address bytes + (for_sectors m address bytes m.shape.sectors + for_bulk m address bytes)
+planning_to m address bytes (Err (DataShort cost)) = for_barred m address bytes + (for_sectors m address bytes m.shape.sectors + for_bulk m address bytes)

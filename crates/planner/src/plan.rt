@@ -1,7 +1,7 @@
 // Planning a write over any part.
 ghost use Rattle.std.specs.Prelude.{◌≡◌, ℕ, ◌+◌, ◌*◌, ◌<◌, ◌≤◌, ◌⊎◌, length, IfOk, slice_index};
 ghost use Rattle.memory.specs.Shape.{size};
-ghost use Rattle.planner.specs.Asking.{planning};
+ghost use Rattle.planner.specs.Asking.{planning_to};
 ghost use Rattle.planner.specs.Looking.{LookedBy};
 ghost use Rattle.planner.specs.Wanted.{Fitting};
 ghost use Rattle.planner.specs.Call.{Handed, plan_call, plan_inside};
@@ -25,7 +25,7 @@ fn plan_inside<P: Part>(
 ) -> Result<Cost, PlanFault>
     requires fitting { Fitting (P.Part.meaning part.old) write.address write.bytes.now }
     requires byte { (i : ℕ) → slice_index write.bytes.now i < 256 }
-    ensures looked { LookedBy P.Part (planning (P.Part.meaning part.old) write.entry.address write.entry.bytes.now) part.old part.new }
+    ensures looked { LookedBy P.Part (planning_to (P.Part.meaning part.old) write.entry.address write.entry.bytes.now result) part.old part.new }
     ensures room { IfOk result (λ cost. (cost.0 ≤ length steps.old) × (cost.1 ≤ length «data».old)) }
     ensures answer { Handed (plan_inside (P.Part.meaning part.old) write.entry.address write.entry.bytes.now (length steps.old) (length «data».old)) result steps.old steps.new «data».old «data».new }
 {
@@ -61,7 +61,7 @@ pub fn plan<P: Part>(
     steps: &mut [Step],
     data: &mut [u8],
 ) -> Result<Cost, PlanFault>
-    ensures looked { LookedBy P.Part (planning (P.Part.meaning part.old) address bytes.now) part.old part.new }
+    ensures looked { LookedBy P.Part (planning_to (P.Part.meaning part.old) address bytes.now result) part.old part.new }
     ensures asked { LookedBy P.Part (3 * size (P.Part.meaning part.old).shape) part.old part.new }
     ensures unasked { (size (P.Part.meaning part.old).shape < address + length bytes.now) ⊎ (0 < (P.Part.meaning part.old).due) → part.new ≡ part.old }
     ensures room { IfOk result (λ cost. (cost.0 ≤ length steps.old) × (cost.1 ≤ length «data».old)) }

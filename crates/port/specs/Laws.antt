@@ -176,7 +176,8 @@ pub record MachineLaws : Type 0 where
   -- read status gives the status byte, and each byte back is the same
   pub shows : (w : ℕ) (c : Chip) → Sound c → (f : Frame) (i : ℕ) → hears c f ≡ status → i < f.wanted
       → Shows c (slice_index (answer w c f) i) × (slice_index (answer w c f) i ≡ slice_index (answer w c f) 0)
-  -- while busy bit 1 may be 0 and may be 1, beside bit 0 that is 1
+  -- while busy the answer may be the status with 1 added, and may be it with 3 added: of a status with bits 1 and 0 clear, bit 0 is
+  -- then 1, and bit 1 may be 0 and may be 1
   pub either : (c : Chip) (f : Frame) → hears c f ≡ status → 0 < c.busy
       → (answer 0 c f ≡ replicate f.wanted (c.status + 1)) × (answer 2 c f ≡ replicate f.wanted (c.status + 3))
   -- an idle chip identifies itself by the maker's byte, the memory type and its capacity byte, as many of them as are wanted

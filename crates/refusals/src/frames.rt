@@ -31,7 +31,7 @@ fn try_frame<P: Port>(
     Ok(())
 }
 
-// The latch is set before the longest frame, a program at 0, and the status shows that it still is.
+// The latch is set before a program at 0 that is one byte too long, and the status shows that it still is.
 fn try_port<P: Port>(rt: &HostRuntime, port: &mut P) -> anyhow::Result<()> {
     let mut program = [0; 321];
     program[0] = 0x02;

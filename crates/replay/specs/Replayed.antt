@@ -11,7 +11,8 @@ use Rattle.listing.specs.Parts.{Spot, Exchange}
 use Rattle.listing.specs.Playing.{frame_of}
 use Rattle.replay.specs.Shown.{line_of}
 
--- the line that is printed of a frame: the bytes that the machine answers, bit 1 of a status being 0 while the chip is busy
+-- the line that is printed of a frame: the bytes that the machine answers, bit 1 of a status being 0 while the chip is busy; or `E10` for
+-- one that is too long
 abbrev pub frame_line : Chip → Exchange → List ℕ
 frame_line c x = line_of (length x.sent + x.back) (answer 0 c (frame_of x))
 

@@ -90,7 +90,7 @@ laid_over s at xs = cond (nat_le (at + length xs) (length s.said.image)) (Ok (re
 unfoldable pub image_said : State → List ℕ → List (List ℕ) → Result State Fault
 image_said s address words = after (no_call s) (λ _. after (decimal_of address) (λ at. after (spelled [] words) (λ xs. laid_over s at xs)))
 
--- room is for no more than the largest chip needs
+-- room is for at most four steps for each page of the largest chip, and for as many data bytes as it has
 abbrev pub make_room : State → ℕ → ℕ → Result State Fault
 make_room s steps bytes = cond (nat_le steps 1048576 && nat_le bytes 16777216) (Ok (record s { said = record s.said { steps = steps; bytes = bytes } })) (Err fault.Room)
 
@@ -101,16 +101,16 @@ unfoldable pub limit_said : State → List ℕ → Result State Fault
 limit_said s polls = after (decimal_of polls) (λ n. Ok (record s { limit = n }))
 
 -- how many bytes a call has
-abbrev pub bytes_asked : Request → ℕ
-bytes_asked (closing sector) = 0
-bytes_asked (opening sector) = 0
-bytes_asked (reading address n) = n
-bytes_asked (writing address bytes limit) = length bytes
+abbrev pub bytes_with : Request → ℕ
+bytes_with (closing sector) = 0
+bytes_with (opening sector) = 0
+bytes_with (reading address n) = n
+bytes_with (writing address bytes limit) = length bytes
 
 -- one more call, if the script may have its bytes
 unfoldable pub called : State → Request → Result State Fault
 called s request =
-    cond (nat_le (bytes_asked request) s.left) (Ok (record s { said = record s.said { calls = s.said.calls ++ (request ∷ []) }; left = s.left - bytes_asked request })) (Err fault.AllBytes)
+    cond (nat_le (bytes_with request) s.left) (Ok (record s { said = record s.said { calls = s.said.calls ++ (request ∷ []) }; left = s.left - bytes_with request })) (Err fault.AllBytes)
 
 unfoldable pub close_said : State → List ℕ → Result State Fault
 close_said s sector = after (decimal_of sector) (λ n. called s (closing n))

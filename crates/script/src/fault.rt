@@ -65,7 +65,7 @@ pub enum Fault {
     // more bytes in the whole script than it may have
     #[error("more than {} bytes in the script", MOST_ALL)]
     AllBytes,
-    // room for more than the largest chip needs
+    // room for more than four steps for each page of the largest chip, or for more than its bytes
     #[error("room is for at most {} steps and {} data bytes", MOST_STEPS, MOST)]
     Room,
     #[error("no memory is left")]

@@ -5,15 +5,13 @@ use Rattle.planner.specs.Asking.{for_barred, for_bulk, for_sectors}
 use Rattle.planner.specs.Sending.{Laid}
 use Rattle.planner.specs.Choice.{Chosen}
 use Rattle.planner.specs.Call.{plan_list}
-use Rattle.planner.proofs.Askings.{asked_all, asked_barred, asked_choice, asked_most}
-use Rattle.planner.proofs.Lookings.{looked_join, looked_most}
+use Rattle.planner.proofs.Askings.{asked_all, asked_choice}
+use Rattle.planner.proofs.Lookings.{looked_join}
 use Rattle.planner.proofs.Calls.{cost_is, plan-counts, lowest_is, handed_barred, handed_steps, handed_data, handed_plan, put_all}
 use Rattle.planner.proofs.plan.plan_inside.Goals as goal
 
 pub returns-in-Some-clause-looked : goal.returns-in-Some-clause-looked
-returns-in-Some-clause-looked g c =
-    looked_most g.P.Part _ _ _ _ c.in-Some.ensures.looked
-    (asked_barred (g.P.Part.meaning c.args.part.now) c.args.write.address c.args.write.bytes.now)
+returns-in-Some-clause-looked g c = c.in-Some.ensures.looked
 
 pub returns-in-Some-clause-answer : goal.returns-in-Some-clause-answer
 returns-in-Some-clause-answer g c =
@@ -26,8 +24,12 @@ returns-in-Some-clause-answer g c =
 
 pub returns-then-cycles-steps-clause-looked : goal.returns-then-cycles-steps-clause-looked
 returns-then-cycles-steps-clause-looked g c =
+    let m = g.P.Part.meaning c.args.part.now in
     let low = c.in_default.ensures.looked in
-    looked_join g.P.Part g.met.P.Part.joins _ _ _ _ _ _ low c.choose-choice.ensures.looked (asked_most (g.P.Part.meaning c.args.part.now) _ c.args.write.address c.args.write.bytes.now low.same)
+    let a = c.args.write.address in
+    let b = c.args.write.bytes.now in
+    looked_join g.P.Part g.met.P.Part.joins _ _ (for_barred m a b + (for_sectors m a b m.shape.sectors + for_bulk m a b)) _ _ _ low
+    c.choose-choice.ensures.looked (le_of_eq (asked_choice m _ a b low.same))
 
 pub returns-then-cycles-steps-clause-answer : goal.returns-then-cycles-steps-clause-answer
 returns-then-cycles-steps-clause-answer g c =
@@ -42,8 +44,12 @@ returns-then-cycles-steps-clause-answer g c =
 
 pub returns-then-sent-data-clause-looked : goal.returns-then-sent-data-clause-looked
 returns-then-sent-data-clause-looked g c =
+    let m = g.P.Part.meaning c.args.part.now in
     let low = c.in_default.ensures.looked in
-    looked_join g.P.Part g.met.P.Part.joins _ _ _ _ _ _ low c.choose-choice.ensures.looked (asked_most (g.P.Part.meaning c.args.part.now) _ c.args.write.address c.args.write.bytes.now low.same)
+    let a = c.args.write.address in
+    let b = c.args.write.bytes.now in
+    looked_join g.P.Part g.met.P.Part.joins _ _ (for_barred m a b + (for_sectors m a b m.shape.sectors + for_bulk m a b)) _ _ _ low
+    c.choose-choice.ensures.looked (le_of_eq (asked_choice m _ a b low.same))
 
 pub returns-then-sent-data-clause-answer : goal.returns-then-sent-data-clause-answer
 returns-then-sent-data-clause-answer g c =
