@@ -2,3 +2,4 @@
 #![tactic(auto)]
 
 pub mod spaced;
+pub mod spell;

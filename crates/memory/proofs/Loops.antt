@@ -1,8 +1,29 @@
 -- One turn of each loop over a page or an image.
-use Rattle.std.proofs.Common.{◌≡◌, ℕ, suc, ◌+◌, ◌-◌, ◌%◌, ◌<◌, List, [], ◌∷◌, ◌++◌, length, get_or, take, drop, set, sym, ap, ◌∙◌, arith}
+use Rattle.std.proofs.Common.{◌≡◌, ℕ, suc, ◌+◌, ◌-◌, ◌*◌, ◌/◌, ◌%◌, ◌<◌, cond, eqb, ◌⊎◌, List, [], ◌∷◌, ◌++◌, length, get_or, take, drop, set, sym, ap, ◌∙◌, inl, inr, mod-lt, div-add-mod', arith}
+use Rattle.std.proofs.lemmas.Nat.{mod-mul-add}
+use Rattle.std.proofs.lemmas.Bool.{cases_eq, eq-eqb, ne_eqb, cond-true, cond-false}
 use Rattle.std.proofs.lemmas.List.{append_assoc, drop-drop, take_more_set}
 use Rattle.memory.specs.Page.{put}
 use Rattle.memory.specs.Image.{rolled}
+
+-- going round: the place after place a mod n
+pub next_round : (a n at : ℕ) → 0 < n → at ≡ a % n → cond (eqb (at + 1) n) 0 (at + 1) ≡ (a + 1) % n
+next_round a n at h e = go (cases_eq (at + 1) n)
+  where
+    whole : a ≡ a / n * n + at
+    whole = sym (div-add-mod' a n) ∙ ap (λ x. a / n * n + x) (sym e)
+
+    below : at < n
+    below = rw e (mod-lt a h)
+
+    go : (at + 1 ≡ n) ⊎ (at + 1 ≡ n → ⊥) → cond (eqb (at + 1) n) 0 (at + 1) ≡ (a + 1) % n
+    go (inl t) =
+        let u : a + 1 ≡ (a / n + 1) * n + 0 = omega (arith, native.Mathlib.Nat.add-mul (a / n) 1 n) in
+        cond-true _ _ _ (eq-eqb _ _ t) ∙ sym (ap (λ x. x % n) u ∙ mod-mul-add (a / n + 1) n 0 h)
+    go (inr d) =
+        let l : at + 1 < n = omega arith in
+        let u : a + 1 ≡ a / n * n + (at + 1) = omega arith in
+        cond-false _ _ _ (ne_eqb _ _ d) ∙ sym (ap (λ x. x % n) u ∙ mod-mul-add (a / n) n (at + 1) l)
 
 pub rolled_none : (image : List ℕ) (a n : ℕ) → n ≡ 0 → rolled image a n ≡ []
 unfolding rolled

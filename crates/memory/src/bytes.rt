@@ -26,14 +26,16 @@ pub fn roll(bytes: &[u8], from: usize, into: &mut [u8])
     if bytes.is_empty() {
         return;
     }
-    let at = from % bytes.len();
+    let mut at = from % bytes.len();
     // at once where it does not come round, as nearly every page is read: byte by byte planning a whole memory is slower
     if into.len() <= bytes.len() - at {
         into.copy_from_slice(&bytes[at..at + into.len()]);
         return;
     }
-    // no `zip` with what comes round: its loop has no name for the bytes written so far
-    for (i, byte) in into.iter_mut().enumerate() {
-        *byte = bytes[(at + i) % bytes.len()];
+    // by a place that goes round: a remainder for each byte takes more than twice as long. No `zip` with what comes round: its
+    // loop has no name for the bytes written so far
+    for byte in into.iter_mut() {
+        *byte = bytes[at];
+        at = if at + 1 == bytes.len() { 0 } else { at + 1 };
     }
 }

@@ -3,6 +3,7 @@ ghost use Rattle.std.specs.Prelude.{Some};
 ghost use Rattle.replay.specs.Shown.{shown};
 
 use hex_text::spaced::Spaced;
+use hex_text::spell::pair;
 use std::fmt;
 
 // Shows its bytes as pairs with single spaces, or `-` for none. `Spaced` has a space before each, so the first stands
@@ -17,9 +18,9 @@ impl fmt::Display for Shown<'_> {
         match self.0 {
             [] => write!(f, "-"),
             [first, others @ ..] => {
-                // a value of its own, of which the proof knows that it is below 256
-                let first = *first;
-                write!(f, "{first:02X}{}", Spaced(others))
+                let mut text = [0; 2];
+                let first = pair(*first, &mut text);
+                write!(f, "{first}{}", Spaced(others))
             }
         }
     }

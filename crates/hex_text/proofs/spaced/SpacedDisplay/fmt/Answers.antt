@@ -1,16 +1,26 @@
-use Rattle.std.proofs.Common.{◌≡◌, ℕ, ◌<◌, List, [], ◌∷◌, get_or, drop, Some, ◌++◌, refl, ap, ◌∙◌, arith, rules}
-use Rattle.std.specs.Fmt.{styled_digits_output, digits_output}
+use Rattle.std.proofs.Common.{◌≡◌, ◌+◌, ◌-◌, ◌<◌, ◌≤◌, length, take, drop, ◌++◌, min, arith, rules, ap, ◌∙◌}
+use Rattle.std.proofs.lemmas.List.{take_all}
 use Rattle.std.proofs.Output.{has_written_append, has_written_of_eq}
-use Rattle.hex_text.specs.HexText.{spaced, pair}
-use Rattle.hex_text.proofs.Hexadecimal.{hex_text, spaced_more}
+use Rattle.hex_text.specs.HexText.{spaced}
+use Rattle.hex_text.proofs.Hexadecimal.{spaced_run}
 use Rattle.hex_text.proofs.spaced.SpacedDisplay.fmt.Goals as goal
 
-pub loop-b-preserved : goal.loop-b-preserved
-loop-b-preserved g c = λ plain.
+pub loop-at-preserved : goal.loop-at-preserved
+loop-at-preserved g c = λ plain.
     let bytes = c.args.self.now.0.now in
-    let i = c.loop-b.b-index in
-    let b = get_or bytes i 0 in
-    let small : b < 256 = search rules in
-    let d : styled_digits_output c.in_radix.result c.laid_out.result ≡ Some (pair b) = ap (styled_digits_output c.in_radix.result) c.laid_out.ensures ∙ hex_text (digits_output c.in_radix.result) b small c.in_radix.ensures in
-    let w = c.write.ensures.writes in
-    has_written_of_eq _ _ _ _ _ (spaced_more bytes i (omega arith)) (has_written_append _ _ _ _ _ _ (c.loop-b.invariant plain) (rw d at w (c.loop-b.invariant plain).plain (search rules)))
+    let at = c.loop-at.at in
+    let w = c.loop-at.invariant plain in
+    let m = c.min-end.ensures in
+    let e : at + (c.min-end.result - at) ≡ at + 32 = omega arith in
+    let s = ap (λ x. spaced (take at bytes) ++ x) c.spell.ensures ∙ spaced_run bytes at (c.min-end.result - at) ∙ ap (λ n. spaced (take n bytes)) e in
+    has_written_of_eq _ _ _ _ _ s (has_written_append _ _ _ _ _ _ w (c.write_str.ensures.writes w.plain (search rules)))
+
+pub returns-in_ok-write_str-clause-writes : goal.returns-in_ok-write_str-clause-writes
+returns-in_ok-write_str-clause-writes g c = λ plain ok.
+    let bytes = c.args.self.now.0.now in
+    let at = c.loop-at.at in
+    let w = c.loop-at.invariant plain in
+    let m = c.min-end.ensures in
+    let e : length bytes ≤ at + (c.min-end.result - at) = omega arith in
+    let s = ap (λ x. spaced (take at bytes) ++ x) c.spell.ensures ∙ spaced_run bytes at (c.min-end.result - at) ∙ ap spaced (take_all _ bytes e) in
+    has_written_of_eq _ _ _ _ _ s (has_written_append _ _ _ _ _ _ w (c.write_str.ensures.writes w.plain (search rules)))
