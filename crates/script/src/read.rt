@@ -1,5 +1,6 @@
 // A script read from text.
-ghost use Rattle.std.specs.Prelude.{◌≡◌, ◌+◌, ◌<◌, ◌≤◌, length, IfErr, IfOk, IsErrAnd, OnOk, IsUtf8};
+ghost use Rattle.std.specs.Prelude.{◌≡◌, ◌+◌, ◌<◌, ◌≤◌, length, max, IfErr, IfOk, IsErrAnd, OnOk, IsUtf8};
+ghost use Rattle.std.specs.Str.Lines.{lines};
 ghost use Rattle.std.specs.Str.Lossy.{utf8_valid_len};
 ghost use Rattle.script.specs.Lines.{line_ends, line_of};
 ghost use Rattle.script.specs.Meaning.{line_said, script_of};
@@ -46,6 +47,14 @@ fn take_line(heap: Global, reading: &mut Reading, line: &str) -> Result<(), Faul
     reading.take(&words)
 }
 
+// The last line of a text, from 1; a text without lines has one that is empty.
+fn last_line(text: &str) -> usize
+    ensures value { result ≡ max (length (lines text.now)) 1 }
+    ensures within { (0 < result) × (result ≤ 1 + line_ends text.now) }
+{
+    text.lines().count().max(1)
+}
+
 fn read_lines(heap: Global, text: &str) -> Result<Script, ScriptFault>
     requires { length text.now ≤ 1048576 }
     ensures line { IfErr result (λ e. (0 < e.line) × (e.line ≤ 1 + line_ends text.now)) }
@@ -55,8 +64,8 @@ fn read_lines(heap: Global, text: &str) -> Result<Script, ScriptFault>
     for (number, line) in (1..).zip(text.lines()) {
         take_line(heap, &mut reading, line).map_err(|fault| fault.on(number))?;
     }
-    let last = text.lines().count().max(1);
-    reading.finish().map_err(|fault| fault.on(last))
+    // counted for a fault alone: else a long script would be gone over twice
+    reading.finish().map_err(|fault| fault.on(last_line(text)))
 }
 
 // The script, or the first line that is faulty. A script without a chip is faulty on its last line.

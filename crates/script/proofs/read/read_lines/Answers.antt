@@ -2,7 +2,6 @@ use Rattle.std.proofs.Common.{rules, arith, ◌≡◌, ℕ, ◌+◌, max, [], �
 use Rattle.std.specs.Str.Iter.{lines_rest}
 use Rattle.std.specs.Str.Lines.{lines}
 use Rattle.std.proofs.lemmas.Iterator.Splits.{YieldsList-from_lines}
-use Rattle.std.proofs.lemmas.Iterator.Consumers.{count_from_yields_List}
 use Rattle.std.proofs.lemmas.Result.{err_from_is_err_and}
 use Rattle.script.specs.Lines.{line_ends}
 use Rattle.script.specs.Meaning.{lines_said}
@@ -67,9 +66,7 @@ returns-clause-script c =
     let s = progress c.loop-number.reading in
     let start = c.loop-number.number-iterator.a.start in
     let last : ℕ = max (length (lines text)) 1 in
-    let all = count_from_yields_List c.lines-2.result c.count.result c.count.ensures.ran (YieldsList-from_lines text c.lines-2.ensures.rest) in
-    let end : c.max-last.result ≡ last = c.max-last.ensures ∙ ap (λ m. max m 1) all in
     let none : i.2.0 ≡ [] = ⊎_elim (λ a. none_there i.2.0 i.2.1 (⊎_elim (λ z. z) (λ some. absurd (omega (arith, i.1 some, ends_few text, a.1.0, c.requires))) (eq-zero-or-pos (length (lines_rest c.loop-number.number-iterator.b))))) (λ b. no_line i.2.0 i.2.1 b.1) c.in-None.ensures.steps in
     reads_same said_by c.map_err-2.result _ _
-    (finished c.max-last.result start s said_by c.finish.result c.map_err-2.result _ c.finish.ensures c.map_err-2.ensures.cases (λ fault e q. search rules))
-    (sym i.2.2 ∙ ap (λ v. lines_said last s start v) none ∙ ap (λ m. lines_said m s start []) (sym end))
+    (finished last start s said_by c.finish.result c.map_err-2.result _ c.finish.ensures c.map_err-2.ensures.cases (λ fault e q. search rules))
+    (sym i.2.2 ∙ ap (λ v. lines_said last s start v) none)
