@@ -1,7 +1,6 @@
--- Bytes spelled as pairs of uppercase hexadecimal digits: lengths, that all of it is ASCII, and one byte more.
-use Rattle.std.proofs.Common.{◌≡◌, ℕ, ◌+◌, ◌*◌, ◌<◌, ◌≤◌, ◌/◌, ◌%◌, ◌++◌, List, [], ◌∷◌, true, length, get_or, take, drop, rules, arith, refl, suc, Result, Ok, Err, sym, ap, ap₂, ◌∙◌, subst, rules}
+-- Bytes spelled as pairs of uppercase hexadecimal digits: that all of it is ASCII, one byte more, a run of them.
+use Rattle.std.proofs.Common.{◌≡◌, ℕ, ◌+◌, ◌*◌, ◌<◌, ◌≤◌, ◌/◌, ◌%◌, ◌++◌, List, [], ◌∷◌, true, length, get_or, take, drop, arith, refl, suc, Result, Ok, Err, sym, ap, ap₂, ◌∙◌}
 use Rattle.std.specs.Fmt.{digit_glyph}
-use Rattle.std.specs.List.{flat_map}
 use Rattle.std.specs.Str.{IsAscii}
 use Rattle.std.proofs.lemmas.Grind.{flat_map-append}
 use Rattle.std.proofs.lemmas.Str.{IsUtf8-from_ascii}
@@ -15,19 +14,12 @@ pub glyph_ascii : (d : ℕ) → d < 16 → digit_glyph true d < 128
 glyph_ascii d h = grind arith
 
 -- a pair before ASCII
-pub pair_before : (b : ℕ) (bs : List ℕ) → b < 256 → IsAscii bs → IsAscii (pair b ++ bs)
+pair_before : (b : ℕ) (bs : List ℕ) → b < 256 → IsAscii bs → IsAscii (pair b ++ bs)
 pair_before b bs h k = IsAscii-cons (digit_glyph true (b / 16)) (digit_glyph true (b % 16) ∷ bs) (glyph_ascii (b / 16) (omega arith)) (IsAscii-cons (digit_glyph true (b % 16)) bs (glyph_ascii (b % 16) (omega arith)) k)
-
-pub pair_ascii : (b : ℕ) → b < 256 → IsAscii (pair b)
-pair_ascii b h = pair_before b [] h IsAscii-nil
 
 pub spaced_ascii : (bytes : List ℕ) → ((i : ℕ) → get_or bytes i 0 < 256) → IsAscii (spaced bytes)
 spaced_ascii [] h = IsAscii-nil
 spaced_ascii (b ∷ bs) h = IsAscii-cons 32 (pair b ++ spaced bs) (omega arith) (pair_before b (spaced bs) (h 0) (spaced_ascii bs (λ i. h (suc i))))
-
-pub length-spaced : (bytes : List ℕ) → length (spaced bytes) ≡ length bytes * 3
-length-spaced [] = search rules
-length-spaced (b ∷ bs) = let e = length-spaced bs in omega arith
 
 -- one more byte
 pub spaced_more : (bytes : List ℕ) (i : ℕ) → i < length bytes → spaced (take i bytes) ++ 32 ∷ pair (get_or bytes i 0) ≡ spaced (take (i + 1) bytes)

@@ -34,11 +34,7 @@ pub(crate) fn spell<'a>(bytes: &[u8], text: &'a mut [u8]) -> &'a str
 {
     for (i, byte) in bytes.iter().enumerate() {
         let place = i * WIDTH;
-        text[place..place + WIDTH].copy_from_slice(&[
-            b' ',
-            digit(byte / 16),
-            digit(byte % 16),
-        ]);
+        text[place..place + WIDTH].copy_from_slice(&[b' ', digit(byte / 16), digit(byte % 16)]);
     }
     from_utf8(&text[..bytes.len() * WIDTH]).unwrap()
 }

@@ -1,4 +1,3 @@
-mod Showing
 mod Refusing
 mod Playing
 mod Replaying
