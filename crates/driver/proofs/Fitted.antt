@@ -1,16 +1,18 @@
 -- A chip as an outline shows it that need not be true of it, its image made to the outline's length; nothing else rests on this file.
-use Rattle.std.specs.Prelude.{◌≡◌, ℕ, ◌+◌, ◌-◌, ◌<◌, cond, List, ◌++◌, length, take, replicate, slice_index, refl}
+use Rattle.std.specs.Prelude.{◌≡◌, ℕ, ◌+◌, ◌-◌, ◌<◌, not, ◌&&◌, ◌==◌, cond, List, ◌++◌, length, take, replicate, slice_index, refl}
 use Rattle.std.proofs.Common.{ap, ◌∙◌, ⊎_elim, arith, length-append}
 use Rattle.std.proofs.lemmas.List.{take_at, get_or-take, get_or_past, get_or_append_left, get_or-append_right, length-take-le, length-replicate, get_or-replicate}
 use Rattle.std.proofs.lemmas.Bool.{cases_lt}
 use Rattle.memory.specs.Shape.{size}
 use Rattle.port.specs.Chip as of_chip
 use Rattle.port.specs.Chip.{Chip}
+use Rattle.port.specs.Machine.{waited}
 use Rattle.part.specs.declared.outline.Outline.{Outline}
-use Rattle.part.specs.Meaning.{Meaning, Sound}
+use Rattle.part.specs.Meaning.{Meaning, Sound, waited as waited_part}
 use Rattle.part.specs.Outline.{outlined, guards}
 use Rattle.part.specs.PlainLemmas.{length-guards}
 use Rattle.driver.specs.Driving.{Intact, seen}
+use Rattle.driver.proofs.Driven.{seen_poll}
 
 -- an image made to a length: cut, or FFh after its end
 unfoldable pub fitted : ℕ → List ℕ → List ℕ
@@ -77,3 +79,8 @@ pub fitted_is : (o : Outline) (c : Chip) → of_chip.Sound c → Intact o c → 
 fitted_is o c s i =
     ap (λ (l : List ℕ). record { shape = outlined o; image = l; guarded = guards o.status.bits o.geometry.sectors; due = cond o.busy (c.busy + 1) 0 })
     (fitted-image o c s i)
+
+pub fitted_poll : (o p : Outline) (c d : Chip) → outlined p ≡ outlined o → p.status.bits ≡ o.status.bits → p.busy ≡ (o.busy && not (c.busy == 0)) → d ≡ waited c
+    → fitted_seen p d ≡ waited_part (fitted_seen o c)
+fitted_poll o p c d s t b e =
+    ap (λ (m : Meaning). record { shape = m.shape; image = fitted (size m.shape) m.image; guarded = m.guarded; due = m.due }) (seen_poll o p c d s t b e)
