@@ -3,3 +3,4 @@ pub mod Leading
 pub mod Reading
 pub mod Sending
 pub mod Driven
+pub mod Fitted
