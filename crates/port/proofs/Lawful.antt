@@ -240,6 +240,7 @@ lawful =
       fixed = λ k c f. fixed-act k c (hears c f);
       filled = λ w c f. length-reply w c (hears c f) f.wanted;
       reads = λ w c f a i e h. ap (λ o. get_or (reply w c o f.wanted) i 0) e ∙ rolls c.image a f.wanted i h;
+      rolls = rolls;
       shows = shows;
       either = either;
       identifies = identifies;

@@ -3,6 +3,7 @@ use Rattle.std.specs.Prelude.{◌≡◌, ℕ, ◌+◌, ◌-◌, ◌*◌, ◌/◌
 use Rattle.memory.specs.Shape.{sector_at}
 use Rattle.memory.specs.Protection.{protects}
 use Rattle.memory.specs.Cycle.{Cycle, program, alter, preset, sector_erase, bulk_erase, effect}
+use Rattle.memory.specs.Image.{rolled}
 use Rattle.port.specs.Chip.{Chip, Sound, shape}
 use Rattle.port.specs.Asks.{Ask, enable, disable, status, identify, read, cycle, unknown}
 use Rattle.port.specs.Machine.{Frame, frame, hears, takes, answer, after}
@@ -173,6 +174,8 @@ pub record MachineLaws : Type 0 where
   -- reads go up from the address and roll over to 0 after the last byte
   pub reads : (w : ℕ) (c : Chip) (f : Frame) (address i : ℕ) → hears c f ≡ read address → i < f.wanted
       → slice_index (answer w c f) i ≡ slice_index c.image ((address + i) % length c.image)
+  -- and so does the definition that reads go by, of any list and any address
+  pub rolls : (image : List ℕ) (address n i : ℕ) → i < n → slice_index (rolled image address n) i ≡ slice_index image ((address + i) % length image)
   -- read status gives the status byte, and each byte back is the same
   pub shows : (w : ℕ) (c : Chip) → Sound c → (f : Frame) (i : ℕ) → hears c f ≡ status → i < f.wanted
       → Shows c (slice_index (answer w c f) i) × (slice_index (answer w c f) i ≡ slice_index (answer w c f) 0)
