@@ -11,6 +11,11 @@ use Rattle.calls.specs.Reference.{Reference, Holds, fed, rewritten}
 use Rattle.calls.specs.Law.{Law}
 use Rattle.calls.specs.History.{Agrees, Follows, State, between}
 
+-- what holds of one image holds of the reference's, where that is the one
+pub holds_by : (o : Option (List ℕ)) (x : List ℕ) (Q : List ℕ → Type 0) → Q x → Holds o (λ i. x ≡ i) → Holds o Q
+holds_by None x Q q h = tt
+holds_by (Some i) x Q q h = subst Q h q
+
 -- what the reference holds of an image, of the next image
 pub holds_moved : (o : Option (List ℕ)) (x y : List ℕ) → y ≡ x → Holds o (λ i. x ≡ i) → Holds o (λ i. y ≡ i)
 holds_moved None x y e h = tt
@@ -30,3 +35,9 @@ module _ {P : Type 0} (part : Ghosts P) where
       → Owed (between s t) s.fence (asks call) (buffer call) answer t.fence → Follows part s call answer' t
   owed_follows s t call answer answer' e o =
       subst (λ (x : Answer). Follows part s call x t) (sym e) (record { law = o.law; agrees = o.agrees })
+
+  -- the same under other names
+  pub owed_by : (b : Buffers) (f g : Fence P) (q q' : Request) (held held' : List ℕ) (a a' : Answer) → q ≡ q' → held ≡ held' → a ≡ a'
+      → Owed b f q held a g → Owed b f q' held' a' g
+  owed_by b f g q q' held held' a a' e h k o =
+      subst (λ (x : Request). Owed b f x held' a' g) e (subst (λ (x : List ℕ). Owed b f q x a' g) h (subst (λ (x : Answer). Owed b f q held x g) k o))

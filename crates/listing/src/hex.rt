@@ -35,8 +35,8 @@ fn glyph(value: u8) -> u8
     }
 }
 
-// The two digits of a byte, the high one first. `{:02X}` and `hex_text` write the same to a formatter, which can fail:
-// here the room of the lent buffer is known.
+// The two digits of a byte, the high one first. `hex_text` shows the same through a formatter, which can fail: here the room of
+// the lent buffer is known.
 pub fn pair(byte: u8) -> [u8; 2]
     ensures { result ≡ pair_text byte }
 {

@@ -2,7 +2,7 @@
 use Rattle.std.proofs.Common.{◌≡◌, ℕ, ◌<◌, Bool, true, List, [], ◌∷◌, ◌++◌, sym, ap, ◌∙◌, subst}
 use Rattle.std.proofs.lemmas.Bool.{and_parts, and_from}
 use Rattle.memory.specs.Shape.{Shape}
-use Rattle.memory.specs.Cycle.{Cycle, effect, Goes}
+use Rattle.memory.specs.Cycle.{Cycle, effect, leads, Goes}
 use Rattle.memory.proofs.Pages.{Real, Whole, sector_of}
 use Rattle.memory.proofs.Cycles.{length-effect, guarded}
 
@@ -15,6 +15,14 @@ goes_join m prot (c ∷ l) k from mid to a b =
     let r = goes_join m prot l k (effect m c from) mid to (u.1, a.1) b in (and_from _ _ u.0 r.0, r.1)
 
 module _ (m : Shape) (R : Real m) (prot : ℕ → Bool) where
+  -- a list broken off after its front: the rest goes from there
+  pub goes-rest :
+      (l k : List Cycle) (from to : List ℕ) → Whole m from → Goes m prot from (l ++ k) to
+      → Goes m prot (leads m l from) k to × Whole m (leads m l from)
+  goes-rest [] k from to e g = (g, e)
+  goes-rest (c ∷ l) k from to e g =
+      let a = and_parts _ _ g.0 in goes-rest l k (effect m c from) to (length-effect m R prot c from e a.0) (a.1, g.1)
+
   -- an accepted list leaves a protected sector as it was
   pub sector-stays :
       (k : ℕ) (closed : prot k ≡ true) (inside : k < m.sectors) (l : List Cycle) (from to : List ℕ) → Whole m from
