@@ -1,6 +1,6 @@
 -- Parts of a text laid one after another over the start of a buffer.
 use Rattle.std.proofs.Common.{◌≡◌, ℕ, ◌+◌, ◌*◌, ◌<◌, ◌≤◌, cond, List, [], ◌∷◌, ◌++◌, length, get_or, take, drop, sym, refl, ap, ◌∙◌, append_assoc, add-zero, zero-add, arith, length-append}
-use Rattle.std.proofs.lemmas.List.{take_at, take-append-drop, drop-drop, take_more, length-take-le}
+use Rattle.std.proofs.lemmas.List.{take_at, take-append-drop, take_more, length-take-le}
 use Rattle.std.proofs.lemmas.Slice.{drop-append-drop}
 use Rattle.std.proofs.lemmas.Bool.{eq-eqb, ne_eqb, le-leb}
 use Rattle.memory.specs.Page.{put}

@@ -1,5 +1,5 @@
 -- Parts of a text written one after another on a sheet.
-use Rattle.std.proofs.Common.{◌≡◌, ℕ, ◌+◌, ◌<◌, ◌≤◌, List, [], ◌∷◌, ◌++◌, length, get_or, take, drop, sym, refl, ap, ◌∙◌, subst, arith, length-append}
+use Rattle.std.proofs.Common.{◌≡◌, ℕ, ◌+◌, ◌<◌, List, [], ◌∷◌, ◌++◌, length, get_or, take, drop, sym, refl, ap, ◌∙◌, subst, arith, length-append}
 use Rattle.std.proofs.lemmas.List.{take-append-drop}
 use Rattle.memory.specs.Page.{put}
 use Rattle.memory.proofs.Blocks.{length-put}
@@ -60,14 +60,11 @@ module _ {p q : Sheet} (bs : List ℕ) (i : ℕ) (h : Room p (spaced_text bs)) (
       let e = ap spaced_text (sym (take-append-drop (i + 1) bs)) ∙ spaced_join (take (i + 1) bs) (drop (i + 1) bs) ∙ ap (λ y. y ++ spaced_text (drop (i + 1) bs)) one_more in
       room_first p (S ++ 32 ∷ P) (spaced_text (drop (i + 1) bs)) e h
 
-  pub space_room : Room q (32 ∷ [])
-  space_room = room_first q (32 ∷ []) P refl (room_next (32 ∷ P) refl so_far x)
+  pub spaced_room : Room q (32 ∷ P)
+  spaced_room = room_next (32 ∷ P) refl so_far x
 
-  pub spaced_room : {r : Sheet} → Wrote q r (32 ∷ []) → Room r P
-  spaced_room y = room_next P refl (room_next (32 ∷ P) refl so_far x) y
-
-  pub spaced_turn : {r s : Sheet} → Wrote q r (32 ∷ []) → Wrote r s P → Wrote p s (spaced_text (take (i + 1) bs))
-  spaced_turn y z = wrote_is (wrote_join refl so_far x (wrote_join refl (room_next (32 ∷ P) refl so_far x) y z)) (sym one_more)
+  pub spaced_turn : {r : Sheet} → Wrote q r (32 ∷ P) → Wrote p r (spaced_text (take (i + 1) bs))
+  spaced_turn y = wrote_is (wrote_join refl so_far x y) (sym one_more)
 
 -- the line of a frame, part by part
 module _ (p : Sheet) (c n : ℕ) (bs : List ℕ) (h : Room p (line_text (exchange (c ∷ bs) n))) where

@@ -50,9 +50,10 @@ impl<'a> Sheet<'a> {
         requires { Room self.old (spaced_text bytes.now) }
         ensures { Wrote self.old self.new (spaced_text bytes.now) }
     {
+        // a byte's three at once: two parts for each take a fifth longer
         for byte in bytes {
-            self.put(b" ");
-            self.put_pair(*byte);
+            let [high, low] = pair(*byte);
+            self.put(&[b' ', high, low]);
         }
     }
 
