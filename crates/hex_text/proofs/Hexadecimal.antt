@@ -9,12 +9,15 @@ use Rattle.std.proofs.lemmas.List.{take_all, take-take, drop-take, take-append-d
 use Rattle.std.proofs.lemmas.Str.Ascii.{IsAscii-nil, IsAscii-cons}
 use Rattle.hex_text.specs.HexText.{pair, spaced}
 
-pub glyph_ascii : (d : ℕ) → d < 16 → digit_glyph true d < 128
+glyph_ascii : (d : ℕ) → d < 16 → digit_glyph true d < 128
 glyph_ascii d h = grind arith
 
 -- a pair before ASCII
 pair_before : (b : ℕ) (bs : List ℕ) → b < 256 → IsAscii bs → IsAscii (pair b ++ bs)
 pair_before b bs h k = IsAscii-cons (digit_glyph true (b / 16)) (digit_glyph true (b % 16) ∷ bs) (glyph_ascii (b / 16) (omega arith)) (IsAscii-cons (digit_glyph true (b % 16)) bs (glyph_ascii (b % 16) (omega arith)) k)
+
+pub pair_ascii : (b : ℕ) → b < 256 → IsAscii (pair b)
+pair_ascii b h = pair_before b [] h IsAscii-nil
 
 pub spaced_ascii : (bytes : List ℕ) → ((i : ℕ) → get_or bytes i 0 < 256) → IsAscii (spaced bytes)
 spaced_ascii [] h = IsAscii-nil

@@ -8,6 +8,7 @@ use std::str::from_utf8;
 // A space and two digits.
 pub(crate) const WIDTH: usize = 3;
 
+// The digit of a value below 16. `char::from_digit` gives lower case.
 fn digit(value: u8) -> u8
     requires { value < 16 }
     ensures { result ≡ digit_glyph true value }
@@ -19,11 +20,18 @@ fn digit(value: u8) -> u8
     }
 }
 
-// The pair of a byte.
+// The two digits of a byte, the high one first.
+pub fn digits(byte: u8) -> [u8; 2]
+    ensures { result ≡ pair byte }
+{
+    [digit(byte / 16), digit(byte % 16)]
+}
+
+// The same put into a lent buffer, as text.
 pub fn pair(byte: u8, text: &mut [u8; 2]) -> &str
     ensures { result.now ≡ pair byte }
 {
-    *text = [digit(byte / 16), digit(byte % 16)];
+    *text = digits(byte);
     from_utf8(text).unwrap()
 }
 
@@ -34,7 +42,8 @@ pub(crate) fn spell<'a>(bytes: &[u8], text: &'a mut [u8]) -> &'a str
 {
     for (i, byte) in bytes.iter().enumerate() {
         let place = i * WIDTH;
-        text[place..place + WIDTH].copy_from_slice(&[b' ', digit(byte / 16), digit(byte % 16)]);
+        let [high, low] = digits(*byte);
+        text[place..place + WIDTH].copy_from_slice(&[b' ', high, low]);
     }
     from_utf8(&text[..bytes.len() * WIDTH]).unwrap()
 }

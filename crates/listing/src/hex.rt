@@ -1,8 +1,9 @@
 // Bytes as pairs of uppercase hexadecimal digits.
 ghost use Rattle.std.specs.Prelude.{◌≡◌, ◌<◌, IfSome};
-ghost use Rattle.listing.specs.Hex.{glyph as hex};
 ghost use Rattle.listing.specs.Scan.{digit_of, joined};
 ghost use Rattle.listing.specs.Writing.{pair_text};
+
+use hex_text::spell::digits;
 
 // The value of a digit. `char::to_digit` takes lower case too.
 pub fn digit(byte: u8) -> Option<u8>
@@ -23,22 +24,10 @@ pub fn byte(high: u8, low: u8) -> Option<u8>
     Some(digit(high)? * 16 + digit(low)?)
 }
 
-// The digit of a value below 16. `char::from_digit` gives lower case.
-fn glyph(value: u8) -> u8
-    requires { value < 16 }
-    ensures { result ≡ hex value }
-{
-    if value < 10 {
-        b'0' + value
-    } else {
-        b'A' - 10 + value
-    }
-}
-
-// The two digits of a byte, the high one first. `hex_text` shows the same through a formatter, which can fail: here the room of
-// the lent buffer is known.
+// The two digits of a byte, the high one first. `Spaced` shows the same through a formatter, which can fail: here the room of the
+// lent buffer is known.
 pub fn pair(byte: u8) -> [u8; 2]
     ensures { result ≡ pair_text byte }
 {
-    [glyph(byte / 16), glyph(byte % 16)]
+    digits(byte)
 }
