@@ -1,13 +1,24 @@
--- Bytes spelled as pairs of uppercase hexadecimal digits: that all of it is ASCII, and a run of them.
-use Rattle.std.proofs.Common.{◌≡◌, ℕ, ◌+◌, ◌-◌, ◌*◌, ◌<◌, ◌≤◌, ◌/◌, ◌%◌, ◌++◌, List, [], ◌∷◌, true, length, get_or, take, drop, arith, refl, suc, Result, Ok, Err, sym, ap, ap₂, ◌∙◌}
-use Rattle.std.specs.Fmt.{digit_glyph}
+-- Bytes spelled as pairs of uppercase hexadecimal digits: what `{:02X}` writes of a byte, one byte more and a run of them, and that
+-- all of it is ASCII.
+use Rattle.std.proofs.Common.{◌≡◌, ℕ, ◌+◌, ◌-◌, ◌*◌, ◌<◌, ◌≤◌, ◌/◌, ◌%◌, ◌^◌, ◌++◌, List, [], ◌∷◌, Some, Option, option_map, true, false, length, get_or, take, drop, arith, refl, suc, Result, Ok, Err, sym, ap, ap₂, ◌∙◌}
+use Rattle.std.specs.Fmt.{digit_glyph, padded_integral, radix_digits, format_spec}
 use Rattle.std.specs.Str.{IsAscii, IsUtf8}
 use Rattle.std.proofs.lemmas.Grind.{flat_map-append}
 use Rattle.std.proofs.lemmas.Str.{IsUtf8-from_ascii}
 use Rattle.std.specs.Result.{MatchResult, IsOk}
-use Rattle.std.proofs.lemmas.List.{take_all, take-take, drop-take, take-append-drop}
+use Rattle.std.proofs.lemmas.Fmt.{hex_byte}
+use Rattle.std.proofs.lemmas.List.{take_all, take_more, take-take, drop-take, take-append-drop, flat_map_more}
 use Rattle.std.proofs.lemmas.Str.Ascii.{IsAscii-nil, IsAscii-cons}
 use Rattle.hex_text.specs.HexText.{pair, spaced}
+
+-- what `{:02X}` writes of a byte
+pub hex_text : (o : Option (List ℕ)) (n : ℕ) → n < 256 → o ≡ Some (radix_digits 16 true n)
+    → option_map (padded_integral (format_spec 32 0 4 2 (2 ^ 64 - 1)) false []) o ≡ Some (pair n)
+hex_text o n small e = rw e (ap Some (hex_byte true n small))
+
+-- one more byte
+pub spaced_more : (bytes : List ℕ) (i : ℕ) → i < length bytes → spaced (take i bytes) ++ 32 ∷ pair (get_or bytes i 0) ≡ spaced (take (i + 1) bytes)
+spaced_more bytes i h = flat_map_more (λ b. 32 ∷ pair b) [] (take i bytes) (get_or bytes i 0) ∙ ap spaced (sym (take_more bytes i 0 h))
 
 glyph_ascii : (d : ℕ) → d < 16 → digit_glyph true d < 128
 glyph_ascii d h = grind arith
