@@ -1,5 +1,5 @@
 -- Bytes spelled as pairs of uppercase hexadecimal digits: what `{:02X}` writes of a byte, one byte more and a run of them, and that
--- all of it is ASCII.
+-- all of it is ASCII. Nothing here cites the first two lemmas: they are for who writes bytes by `{:02X}`, one by one.
 use Rattle.std.proofs.Common.{◌≡◌, ℕ, ◌+◌, ◌-◌, ◌*◌, ◌<◌, ◌≤◌, ◌/◌, ◌%◌, ◌^◌, ◌++◌, List, [], ◌∷◌, Some, Option, option_map, true, false, length, get_or, take, drop, arith, refl, suc, Result, Ok, Err, sym, ap, ap₂, ◌∙◌}
 use Rattle.std.specs.Fmt.{digit_glyph, padded_integral, radix_digits, format_spec}
 use Rattle.std.specs.Str.{IsAscii, IsUtf8}
